@@ -1,0 +1,11 @@
+pub mod Cutting
+pub mod Held
+pub mod Mapped
+pub mod Mapping
+pub mod Pieces
+pub mod Placing
+pub mod Positions
+pub mod Splicing
+pub mod Steps
+pub mod Streams
+pub mod Windows

@@ -1,0 +1,38 @@
+-- Trigraph sequences. Assumes nothing.
+use mathlib.Core.Bool.{cond, _&&_}
+use Prim.Native.Nat.{ℕ}
+use lib.Chars.{codes}
+use lib.Dec.{eqb}
+use Rattle.std.specs.Finite.{lookup}
+use Rattle.std.specs.Options.{mapped}
+use Rattle.std.specs.declared.option.Option.{Option}
+use Rattle.std.specs.declared.option.Option.the-variants.{Some, None}
+use Rattle.source.specs.declared.trigraph.Window.{Window}
+use Rattle.source.specs.Stream.{Stream, _▸_, ends, put}
+
+-- what ?? and the byte become
+abbrev pub replacement : ℕ → Option ℕ
+replacement b = lookup eqb (codes "=(/)'<!>-") (codes "#[\\]^{|}~") b
+
+-- what three bytes become, where the first two are question marks
+abbrev pub trigraph : ℕ → ℕ → ℕ → Option ℕ
+trigraph a b c = cond (eqb a 63 && eqb b 63) (replacement c) None
+
+-- trigraphs are replaced from the left, each on the line of its first byte
+abbrev pub trigraphs : Stream → Stream
+trigraphs (ends e) = ends e
+trigraphs (a ▸ ends e) = a ▸ ends e
+trigraphs (a ▸ b ▸ ends e) = a ▸ b ▸ ends e
+trigraphs (a ▸ b ▸ c ▸ s) =
+    elim (trigraph (a .byte) (b .byte) (c .byte)) [
+      | None ↦ a ▸ trigraphs (b ▸ c ▸ s)
+      | Some r ↦ record { byte = r; line = a .line } ▸ trigraphs s
+    ]
+
+-- three answers put back in front
+abbrev pub inFront : Window → Stream → Stream
+inFront w s = put (w .first) (put (w .second) (put (w .third) s))
+
+-- what the layer makes of a stream, with its window put back
+abbrev pub trigraphsFrom : Window → Stream → Stream
+trigraphsFrom w s = trigraphs (inFront w s)

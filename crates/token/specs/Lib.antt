@@ -1,0 +1,9 @@
+pub mod Cutting
+pub mod Grammar
+pub mod Packing
+pub mod Punctuators
+pub mod Scanning
+pub mod Tables
+pub mod Tokens
+pub mod Views
+pub mod Worked

@@ -1,0 +1,45 @@
+// Preprocessing tokens: their kinds, tables of them, and cutting a logical line into them.
+ghost use mathlib.Core.Path.{_≡_};
+ghost use Rattle.token.specs.Tokens.{kindNumber};
+
+mod cut;
+mod line_tokens;
+mod record;
+mod scan;
+mod table;
+mod tables;
+mod tokens;
+
+pub use cut::one_token;
+pub use line_tokens::LineTokens;
+pub use table::TokenTable;
+pub use tokens::Tokens;
+
+// The six kinds of preprocessing tokens.
+#[derive(Clone, Copy, PartialEq, Debug)]
+pub enum Kind {
+    Identifier = 1,
+    Number = 2,
+    Character = 3,
+    String = 4,
+    Punctuator = 5,
+    Other = 6,
+}
+
+impl Kind {
+    // The number of the kind.
+    pub fn number(self) -> u8
+        ensures { λ r. ⌜ r ≡ kindNumber self ⌝ }
+    {
+        self as u8
+    }
+}
+
+// A token, with its spelling where it lies.
+#[derive(Clone, Copy)]
+pub struct TokenRef<'a> {
+    pub kind: Kind,
+    pub spelling: &'a [u8],
+    pub line: u32,
+    pub marked: bool,
+}
