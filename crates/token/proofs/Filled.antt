@@ -42,8 +42,3 @@ module _ (t : TokenTable) (u : TokenRef) (at : ℕ) (r : Record) (is : r ≡ rec
   pub tokens-push : (text : List ℕ) → text ≡ vec-items (t .text) ++ u .spelling .now → map (recordToken text) rs ≡ tableTokens t ++ referred u ∷ []
   tokens-push text e =
       (λ i. map (recordToken (e i)) ((added ∙ ap (λ x. vec-items (t .records) ++ x ∷ []) is) i)) ∙ packed.tokens-push (vec-items (t .text)) (u .spelling .now) (vec-items (t .records)) (recordOf at u) (dense t) (end ∙ t .text .ok .0) refl
-
--- a table for a line has room for each token of a line
-pub room-for : (t : TokenTable) (at n : ℕ) → t .«tokens_limit» ≡ 4095 → t .«bytes_limit» ≡ 4095 → length (tableTokens t) ≤ at → spelled (tableTokens t) ≤ at → 0 < n → at + n ≤ 4095 → hasRoom t n ≡ true
-room-for t at n tokens bytes few short some fits =
-    and-from _ _ (lt-ltb (length (tableTokens t)) (t .«tokens_limit») (omega arith)) (le-leb (spelled (tableTokens t) + n) (t .«bytes_limit») (omega arith))

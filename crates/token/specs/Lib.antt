@@ -1,9 +1,4 @@
-pub mod Cutting
-pub mod Grammar
 pub mod Packing
-pub mod Punctuators
-pub mod Scanning
 pub mod Tables
 pub mod Tokens
 pub mod Views
-pub mod Worked

@@ -20,3 +20,10 @@ tableTokens t = map (recordToken (vec-items (t .text))) (vec-items (t .records))
 -- the token that is referred to
 abbrev pub referred : TokenRef → Token
 referred t = record { kind = t .kind; spelling = t .spelling .now; line = t .line; marked = t .marked }
+
+-- the limits of a table
+abbrev pub tokensLimit : TokenTable → ℕ
+tokensLimit t = t .«tokens_limit»
+
+abbrev pub bytesLimit : TokenTable → ℕ
+bytesLimit t = t .«bytes_limit»

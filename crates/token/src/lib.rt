@@ -1,17 +1,12 @@
-// Preprocessing tokens: their kinds, tables of them, and cutting a logical line into them.
+// Preprocessing tokens: their kinds, and tables of them.
 ghost use mathlib.Core.Path.{_≡_};
 ghost use Rattle.token.specs.Tokens.{kindNumber};
 
-mod cut;
-mod line_tokens;
 mod record;
-mod scan;
 mod table;
 mod tables;
 mod tokens;
 
-pub use cut::one_token;
-pub use line_tokens::LineTokens;
 pub use table::TokenTable;
 pub use tokens::Tokens;
 

@@ -1,0 +1,15 @@
+pub mod Bounds
+pub mod Examples
+pub mod Fronts
+pub mod Lengths
+pub mod Lexical
+pub mod Literals
+pub mod Names
+pub mod Numerals
+pub mod Punctuators
+pub mod Reaching
+pub mod Rooms
+pub mod Sofar
+pub mod Sound
+pub mod Turns
+pub mod Words

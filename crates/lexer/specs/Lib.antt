@@ -1,0 +1,5 @@
+pub mod Cutting
+pub mod Grammar
+pub mod Punctuators
+pub mod Scanning
+pub mod Worked

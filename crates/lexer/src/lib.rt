@@ -1,0 +1,7 @@
+// The lexer: a logical line is cut into preprocessing tokens.
+mod cut;
+mod line_tokens;
+mod scan;
+
+pub use cut::one_token;
+pub use line_tokens::LineTokens;

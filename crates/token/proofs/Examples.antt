@@ -1,6 +1,0 @@
--- The worked examples compute. Assumes nothing.
-use mathlib.Core.Path.{refl}
-use Rattle.token.specs.Worked.{Worked}
-
-pub worked : Worked
-worked = record { trigraph = refl; splice = refl; name = refl; comment = refl; longest = refl; number = refl; digraph = refl }
