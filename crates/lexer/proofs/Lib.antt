@@ -1,8 +1,10 @@
 pub mod Bounds
+pub mod Counts
 pub mod Examples
 pub mod Fronts
 pub mod Lengths
 pub mod Lexical
+pub mod Lines
 pub mod Literals
 pub mod Names
 pub mod Numerals

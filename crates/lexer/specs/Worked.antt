@@ -3,27 +3,17 @@ use mathlib.Core.Path.{_≡_}
 use mathlib.Core.List.{List, [], _∷_, _++_, map}
 use Prim.Native.Nat.{ℕ}
 use lib.Chars.{codes}
-use Rattle.std.specs.declared.result.Result.{Result}
-use Rattle.std.specs.declared.result.Result.the-variants.{Ok, Err}
-use Rattle.source.specs.Lines.{Lines, line, stop}
-use Rattle.source.specs.Phases.{logicalLines}
 use Rattle.source.specs.Texts.{memoryText}
-use Rattle.text.specs.declared.Fault.{Fault}
-use Rattle.lexer.specs.Cutting.{cutLine}
-use Rattle.token.specs.Tokens.{Token}
+use Rattle.lexer.specs.Phases.{TokenLines, tokens, over, tokenLines}
 
-abbrev pub spellings : Result (List Token) Fault → List (List ℕ)
-spellings (Ok ts) = map (λ t. t .spelling) ts
-spellings (Err f) = []
-
--- the spellings of all lines, up to the first fault
-abbrev pub spelledLines : Lines → List (List ℕ)
-spelledLines (line ps n ls) = spellings (cutLine ps) ++ spelledLines ls
-spelledLines (stop e) = []
+-- the spellings of all lines, up to the ending
+abbrev pub spellings : TokenLines → List (List ℕ)
+spellings (tokens ts n ls) = map (λ t. t .spelling) ts ++ spellings ls
+spellings (over e) = []
 
 -- a text read through all phases before the fourth
 abbrev pub read : List ℕ → List (List ℕ)
-read bytes = spelledLines (logicalLines (memoryText bytes))
+read bytes = spellings (tokenLines (memoryText bytes))
 
 pub record Worked : Type 0 where
   -- trigraphs are replaced from the left

@@ -16,7 +16,6 @@ ghost use Rattle.lexer.specs.Grammar.{Lexical};
 ghost use Rattle.lexer.specs.Scanning.{measured};
 ghost use Rattle.token.specs.Tables.{tableTokens};
 ghost use Rattle.token.specs.Views.{viewTokens};
-ghost use Rattle.lexer.specs.Worked.{Worked};
 use crate::line_tokens::LineTokens;
 use crate::scan::Scanned;
 use crate::scan::is_white;
@@ -49,7 +48,6 @@ impl LineTokens {
     pub fn cut(&mut self, line: &Line) -> Result<(), Fault>
         ensures tokens { λ r. ⌜ Cases r (λ _. cutLine (held (now (line .entry))) ≡ Ok (tableTokens (now (self .exit) .table))) (λ f. (cutLine (held (now (line .entry))) ≡ Err f) × (tableTokens (now (self .exit) .table) ≡ [])) ⌝ }
         ensures lexical { λ _. ⌜ Lexical ⌝ }
-        ensures worked { λ _. ⌜ Worked ⌝ }
     {
         self.table.clear();
         if let Err(fault) = self.fill(line.bytes(), line.lines()) {

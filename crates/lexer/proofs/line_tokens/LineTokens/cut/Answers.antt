@@ -3,7 +3,6 @@ use lib.ListN.{length, length-map}
 use Rattle.source.specs.Lines.{held}
 use Rattle.text.specs.Placing.{placed}
 use Rattle.lexer.specs.Cutting.{cutLine}
-use Rattle.lexer.proofs.Examples.{worked}
 use Rattle.lexer.proofs.Lexical.{lexical}
 use Rattle.lexer.proofs.Sofar.{placed-parts}
 use Rattle.lexer.proofs.line_tokens.LineTokens.cut.Needs as need
@@ -26,9 +25,8 @@ returns-in-Err c =
     record {
       tokens = (line-is (need.at·returns-in-Err c .After-lines) ∙ c .in-Err .ensures tt, c .clear-in-Err .ensures .tokens);
       lexical = lexical;
-      worked = worked;
     }
 
 pub returns : need.returns
 returns c =
-    record { tokens = line-is (need.at·returns c .After-lines) ∙ c .in-rest .ensures tt; lexical = lexical; worked = worked }
+    record { tokens = line-is (need.at·returns c .After-lines) ∙ c .in-rest .ensures tt; lexical = lexical }
