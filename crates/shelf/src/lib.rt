@@ -12,6 +12,7 @@ use catalog::Catalog;
 pub use catalog::Entry;
 pub use catalog::Extent;
 pub use pack::PackShelf;
+pub use pack::PackShelfShelf;
 use std::alloc::AllocError;
 use std::alloc::Global;
 
