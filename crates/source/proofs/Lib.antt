@@ -2,10 +2,10 @@ pub mod Cutting
 pub mod Held
 pub mod Mapped
 pub mod Mapping
+pub mod Marks
 pub mod Pieces
 pub mod Placing
 pub mod Positions
 pub mod Splicing
 pub mod Steps
 pub mod Streams
-pub mod Windows

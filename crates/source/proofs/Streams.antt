@@ -14,6 +14,14 @@ put-back (ends e) = refl
 pub put-one : {a : Taken} {s t : Stream} → a ≡ head s → t ≡ tail s → put a t ≡ s
 put-one {a} {s} {t} e f = (λ i. put (e i) (f i)) ∙ put-back s
 
--- two answers put back
-pub put-two : {a b : Taken} {s t u : Stream} → a ≡ head s → t ≡ tail s → b ≡ head t → u ≡ tail t → put a (put b u) ≡ s
-put-two {a} e f h k = ap (put a) (put-one h k) ∙ put-one e f
+head-put : (r : Taken) (t : Stream) → head (put r t) ≡ r
+head-put (Byte p) t = refl
+head-put (End e) t = refl
+
+-- what a source gives: the first of a stream, and what is left of it
+pub record Gives (s : Stream) (r : Taken) (t : Stream) : Type 0 where
+  pub answer : r ≡ head s
+  pub after : t ≡ tail s
+
+pub gives : {s t u : Stream} {r : Taken} → s ≡ put r t → tail (put r t) ≡ t → u ≡ t → Gives s r u
+gives {s} {t} {u} {r} e stays f = record { answer = sym (ap head e ∙ head-put r t); after = f ∙ sym (ap tail e ∙ stays) }

@@ -1,5 +1,6 @@
 pub mod Comments
 pub mod Lines
+pub mod Lookahead
 pub mod Phases
 pub mod Pieces
 pub mod Splices

@@ -32,8 +32,8 @@ linesFrom (Some f) s = stop (Fails f)
 abbrev pub streamLeft : {B : Type 0} → (B → Stream) → Comments (Splices (Trigraphs B)) → Stream
 streamLeft rest c =
     let s = c .below in
-    let t = s .below in
-    uncommentedFrom (c .pending) (splicedFrom (s .pending) (trigraphsFrom (t .window) (rest (t .below))))
+    let t = s .below .below in
+    uncommentedFrom (c .pending) (splicedFrom (s .below .held) (s .unclosed) (trigraphsFrom (t .below .held) (rest (t .below .below))))
 
 -- the lines left of a reader
 abbrev pub linesLeft : {B : Type 0} → (B → Stream) → Reader B → Lines
@@ -43,8 +43,8 @@ linesLeft rest r = linesFrom (r .stopped) (streamLeft rest (r .layers))
 abbrev pub pendingLines : List File → Pending → Lines
 pendingLines fs p =
     let l = p .layers in
-    linesFrom (p .stopped) (uncommentedFrom (l .comments) (splicedFrom (l .splices) (trigraphsFrom (l .trigraphs) (fileFrom (p .position) fs (p .file)))))
+    linesFrom (p .stopped) (uncommentedFrom (l .comments) (splicedFrom (l .splices) (l .unclosed) (trigraphsFrom (l .trigraphs) (fileFrom (p .position) fs (p .file)))))
 
 -- the shelf that a reader reads from
 abbrev pub shelfRead : {S : Type 0} → Reader (FileSource S) → S
-shelfRead r = r .layers .below .below .below .shelf .now
+shelfRead r = r .layers .below .below .below .below .below .shelf .now

@@ -6,8 +6,9 @@ use Rattle.std.specs.declared.option.Option.{Option}
 use Rattle.std.specs.declared.option.Option.the-variants.{Some, None}
 use Rattle.source.specs.declared.Ending.the-variants.{Whole, Fails}
 use Rattle.text.specs.declared.Placed.{Placed}
-use Rattle.source.specs.declared.splice.Pending.{Pending}
-use Rattle.source.specs.Stream.{Stream, _▸_, ends, put}
+use Rattle.source.specs.declared.lookahead.Held.{Held}
+use Rattle.source.specs.Lookahead.{ahead}
+use Rattle.source.specs.Stream.{Stream, _▸_, ends}
 
 -- a backslash directly before a newline
 abbrev pub splice : ℕ → ℕ → Bool
@@ -35,6 +36,6 @@ closed (Some l) (ends (Fails f)) = ends (Fails f)
 abbrev pub spliced : Stream → Stream
 spliced s = closed None (splices s)
 
--- the same with the layer's state put back
-abbrev pub splicedFrom : Pending → Stream → Stream
-splicedFrom w s = closed (w .unclosed) (splices (put (w .first) (put (w .second) s)))
+-- the same with the bytes that the layer put back, and the line that it left open
+abbrev pub splicedFrom : Held → Option ℕ → Stream → Stream
+splicedFrom h o s = closed o (splices (ahead h s))

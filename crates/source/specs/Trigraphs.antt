@@ -7,8 +7,9 @@ use Rattle.std.specs.Finite.{lookup}
 use Rattle.std.specs.Options.{mapped}
 use Rattle.std.specs.declared.option.Option.{Option}
 use Rattle.std.specs.declared.option.Option.the-variants.{Some, None}
-use Rattle.source.specs.declared.trigraph.Window.{Window}
-use Rattle.source.specs.Stream.{Stream, _▸_, ends, put}
+use Rattle.source.specs.declared.lookahead.Held.{Held}
+use Rattle.source.specs.Lookahead.{ahead}
+use Rattle.source.specs.Stream.{Stream, _▸_, ends}
 
 -- what ?? and the byte become
 abbrev pub replacement : ℕ → Option ℕ
@@ -29,10 +30,6 @@ trigraphs (a ▸ b ▸ c ▸ s) =
       | Some r ↦ record { byte = r; line = a .line } ▸ trigraphs s
     ]
 
--- three answers put back in front
-abbrev pub inFront : Window → Stream → Stream
-inFront w s = put (w .first) (put (w .second) (put (w .third) s))
-
--- what the layer makes of a stream, with its window put back
-abbrev pub trigraphsFrom : Window → Stream → Stream
-trigraphsFrom w s = trigraphs (inFront w s)
+-- the same with the bytes that the layer put back
+abbrev pub trigraphsFrom : Held → Stream → Stream
+trigraphsFrom h s = trigraphs (ahead h s)

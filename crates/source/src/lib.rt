@@ -7,6 +7,7 @@ mod bottom;
 mod comment;
 mod line;
 mod lines;
+mod lookahead;
 mod position;
 mod reader;
 mod splice;

@@ -14,11 +14,11 @@ use crate::comment;
 use crate::comment::Comments;
 use crate::comment::CommentsSource;
 use crate::line::Line;
+use crate::lookahead::Held;
+use crate::lookahead::Lookahead;
 use crate::position::Position;
-use crate::splice;
 use crate::splice::Splices;
 use crate::splice::SplicesSource;
-use crate::trigraph;
 use crate::trigraph::Trigraphs;
 use crate::trigraph::TrigraphsSource;
 use shelf::Shelf;
@@ -35,8 +35,9 @@ pub enum NextLine {
 // What the layers hold between two bytes.
 #[derive(Clone, Copy)]
 pub(crate) struct Layers {
-    trigraphs: trigraph::Window,
-    splices: splice::Pending,
+    trigraphs: Held,
+    splices: Held,
+    unclosed: Option<u32>,
     comments: comment::Pending,
 }
 
@@ -121,13 +122,15 @@ impl<'a, S: Shelf> Reader<FileSource<'a, S>> {
             below,
             pending: comments,
         } = layers;
-        let Splices {
+        let Splices { below, unclosed } = below;
+        let Lookahead {
             below,
-            pending: splices,
+            held: splices,
         } = below;
-        let Trigraphs {
+        let Trigraphs { below } = below;
+        let Lookahead {
             below,
-            window: trigraphs,
+            held: trigraphs,
         } = below;
         let FileSource {
             shelf: _,
@@ -137,6 +140,7 @@ impl<'a, S: Shelf> Reader<FileSource<'a, S>> {
         let layers = Layers {
             trigraphs,
             splices,
+            unclosed,
             comments,
         };
         Pending {
@@ -162,13 +166,18 @@ impl<'a, S: Shelf> Reader<FileSource<'a, S>> {
             file,
             position,
         };
-        let below = Trigraphs {
+        let below = Lookahead {
             below,
-            window: layers.trigraphs,
+            held: layers.trigraphs,
+        };
+        let below = Trigraphs { below };
+        let below = Lookahead {
+            below,
+            held: layers.splices,
         };
         let below = Splices {
             below,
-            pending: layers.splices,
+            unclosed: layers.unclosed,
         };
         let layers = Comments {
             below,

@@ -1,34 +1,19 @@
 // The splice layer.
 ghost use mathlib.Core.Path.{_≡_};
-ghost use mathlib.Core.Bool.{false};
-ghost use Rattle.source.specs.Stream.{put, pending};
-ghost use Rattle.source.specs.Splices.{splice, opening, spliced, splicedFrom};
+ghost use Rattle.source.specs.declared.Taken.the-variants.{Byte};
+ghost use Rattle.source.specs.Splices.{opening, closed, spliced, splicedFrom};
+ghost use Rattle.source.specs.Stream.{ends, head, tail};
 use crate::Ending;
 use crate::Source;
 use crate::Taken;
+use crate::lookahead::Lookahead;
 use text::Placed;
 
-// The next two answers of the source below, and the line of the last byte handed on where that was no newline.
-#[derive(Clone, Copy)]
-pub(crate) struct Pending {
-    first: Taken,
-    second: Taken,
-    unclosed: Option<u32>,
-}
-
+// The line of the last byte handed on is kept where that left it open.
 #[derive(Drop)]
 pub(crate) struct Splices<B> {
-    pub(crate) below: B,
-    pub(crate) pending: Pending,
-}
-
-impl Pending {
-    // Whether the two answers are a backslash and a newline. An ending counts as byte 0.
-    fn is_splice(self) -> bool
-        ensures { λ r. ⌜ r ≡ splice (pending (self .first)) (pending (self .second)) ⌝ }
-    {
-        self.first.byte() == b'\\' && self.second.byte() == b'\n'
-    }
+    pub(crate) below: Lookahead<B>,
+    pub(crate) unclosed: Option<u32>,
 }
 
 // The byte's line, where it leaves that open.
@@ -43,57 +28,60 @@ fn open_line(placed: Placed) -> Option<u32>
 }
 
 impl<B: Source> Splices<B> {
-    pub(crate) fn new(mut below: B) -> Splices<B>
-        ensures { λ r. ⌜ splicedFrom (r .pending) (B·Source .rest (r .below)) ≡ spliced (B·Source .rest below) ⌝ }
+    pub(crate) fn new(below: B) -> Splices<B>
+        ensures { λ r. ⌜ splicedFrom (r .below .held) (r .unclosed) (B·Source .rest (r .below .below)) ≡ spliced (B·Source .rest below) ⌝ }
     {
-        let first = below.take();
-        let second = below.take();
-        let pending = Pending {
-            first,
-            second,
+        Splices {
+            below: Lookahead::new(below),
             unclosed: None,
-        };
-        Splices { below, pending }
+        }
     }
 
-    // Drops the splices at the front.
-    fn skip(&mut self)
-        ensures same { λ _. ⌜ splicedFrom (now (self .exit) .pending) (B·Source .rest (now (self .exit) .below)) ≡ splicedFrom (now (self .entry) .pending) (B·Source .rest (now (self .entry) .below)) ⌝ }
-        ensures none { λ _. ⌜ splice (pending (now (self .exit) .pending .first)) (pending (now (self .exit) .pending .second)) ≡ false ⌝ }
+    // Hands a byte on.
+    fn hand(&mut self, placed: Placed) -> Taken
+        ensures answer { λ r. ⌜ r ≡ Byte placed ⌝ }
+        ensures unclosed { λ _. ⌜ now (self .exit) .unclosed ≡ opening placed ⌝ }
+        ensures below { λ _. ⌜ now (self .exit) .below ≡ now (self .entry) .below ⌝ }
     {
-        while self.pending.is_splice() {
-            self.pending.first = self.below.take();
-            self.pending.second = self.below.take();
+        self.unclosed = open_line(placed);
+        Taken::Byte(placed)
+    }
+
+    // The answer at an ending: first a newline, where the last line is open and the ending is whole.
+    fn end(&mut self, ending: Ending) -> Taken
+        ensures answer { λ r. ⌜ r ≡ head (closed (now (self .entry) .unclosed) (ends ending)) ⌝ }
+        ensures after { λ _. ⌜ closed (now (self .exit) .unclosed) (ends ending) ≡ tail (closed (now (self .entry) .unclosed) (ends ending)) ⌝ }
+        ensures below { λ _. ⌜ now (self .exit) .below ≡ now (self .entry) .below ⌝ }
+    {
+        match (ending, self.unclosed) {
+            (Ending::Whole, Some(line)) => {
+                self.unclosed = None;
+                Taken::Byte(Placed { byte: b'\n', line })
+            }
+            _ => Taken::End(ending),
         }
     }
 }
 
 pub(crate) impl<B: Source> Source for Splices<B> as SplicesSource {
-    ghost rest = { λ s. splicedFrom (s .pending) (B·Source .rest (s .below)) };
+    ghost rest = { λ s. splicedFrom (s .below .held) (s .unclosed) (B·Source .rest (s .below .below)) };
 
     fn take(&mut self) -> Taken {
-        self.skip();
-        let Pending {
-            first,
-            second,
-            unclosed,
-        } = self.pending;
-        match (first, unclosed) {
-            (Taken::Byte(placed), _) => {
-                let next = self.below.take();
-                let unclosed = open_line(placed);
-                self.pending = Pending {
-                    first: second,
-                    second: next,
-                    unclosed,
-                };
-                first
+        loop {
+            let first = match self.below.next() {
+                Taken::Byte(first) => first,
+                Taken::End(ending) => return self.end(ending),
+            };
+            if first.byte != b'\\' {
+                return self.hand(first);
             }
-            (Taken::End(Ending::Whole), Some(line)) => {
-                self.pending.unclosed = None;
-                Taken::Byte(Placed { byte: b'\n', line })
+            let Taken::Byte(second) = self.below.next() else {
+                return self.hand(first);
+            };
+            if second.byte != b'\n' {
+                self.below.put_back(second);
+                return self.hand(first);
             }
-            _ => first,
         }
     }
 }

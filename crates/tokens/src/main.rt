@@ -17,7 +17,6 @@ use source::Source;
 use std::alloc::AllocError;
 use std::alloc::Global;
 use std::io;
-use std::io::BufWriter;
 use std::io::Read;
 use std::io::Write;
 use token::Tokens;
@@ -37,43 +36,49 @@ fn shelf_of(heap: Global, text: &[u8]) -> Result<TableShelf<'_>, AllocError> {
     TableShelf::new(heap, text, &[Entry { name, content }])
 }
 
-fn print_tokens<W: Write>(out: &mut W, tokens: Tokens<'_>) -> io::Result<()> {
+// Adds a line for each token. The digits of a line number are made once for the tokens in a row that stand on it.
+fn add_tokens(heap: Global, listing: &mut Vec<u8>, tokens: Tokens<'_>) -> Result<(), AllocError> {
+    let mut last = 0;
+    let mut digits = String::new(heap);
     for index in 0..tokens.len() {
         if let Some(token) = tokens.get(index) {
-            let line = token.line;
-            let kind = token.kind.number();
-            write!(out, "{line} {kind} ")?;
-            out.write_all(token.spelling)?;
-            out.write_all(b"\n")?;
+            if token.line != last {
+                last = token.line;
+                digits = format!(heap, "{last}")?;
+            }
+            listing.extend_from_slice(digits.as_bytes())?;
+            listing.extend_from_slice(&[b' ', b'0' + token.kind.number(), b' '])?;
+            listing.extend_from_slice(token.spelling)?;
+            listing.push(b'\n')?;
         }
     }
     Ok(())
 }
 
-fn print_ending<W: Write>(out: &mut W, ending: Ending) -> io::Result<()> {
+// The last line of the listing.
+fn closing(heap: Global, ending: Ending) -> Result<String, AllocError> {
     match ending {
-        Ending::Whole => writeln!(out, "// end"),
+        Ending::Whole => String::from_str(heap, "// end\n"),
         Ending::Fails(fault) => {
             let number = fault.kind.number();
             let phase = fault.kind.phase();
             let line = fault.line;
-            writeln!(out, "// fault {number} phase {phase} plan.c {line}")
+            format!(heap, "// fault {number} phase {phase} plan.c {line}\n")
         }
     }
 }
 
-// Prints the tokens of every line, up to the ending or the first fault.
-fn print_lines<B: Source + Drop, W: Write>(
-    out: &mut W,
-    mut reader: Reader<B>,
-    mut line: Line,
-    mut tokens: LineTokens,
-) -> io::Result<()> {
+// The tokens of every line, up to the ending or the first fault.
+fn list<B: Source + Drop>(heap: Global, mut reader: Reader<B>) -> Result<Vec<u8>, AllocError> {
+    let mut listing = Vec::new(heap);
+    let mut line = Line::new(heap)?;
+    let mut tokens = LineTokens::new(heap)?;
     loop {
         if let NextLine::End(ending) = next_tokens(&mut reader, &mut line, &mut tokens) {
-            return print_ending(out, ending);
+            listing.extend_from_slice(closing(heap, ending)?.as_bytes())?;
+            return Ok(listing);
         }
-        print_tokens(out, tokens.tokens())?;
+        add_tokens(heap, &mut listing, tokens.tokens())?;
     }
 }
 
@@ -82,10 +87,9 @@ fn main(rt: LibcRuntime) -> io::Result<()> {
     let mut text = Vec::from_slice(heap, NAME)?;
     rt.stdin().read_to_end(&mut text)?;
     let shelf = shelf_of(heap, &text)?;
-    let mut out = BufWriter::new(rt.stdout());
     if let Some(file) = shelf.find(NAME) {
-        let reader = Reader::new(FileSource::new(&shelf, file));
-        print_lines(&mut out, reader, Line::new(heap)?, LineTokens::new(heap)?)?;
+        let listing = list(heap, Reader::new(FileSource::new(&shelf, file)))?;
+        rt.stdout().write_all(&listing)?;
     }
-    out.flush()
+    Ok(())
 }

@@ -1,15 +1,30 @@
-use mathlib.Core.Path.{sym, ap, _∙_}
+use mathlib.Core.Path.{ap, _∙_}
+use Rattle.source.specs.Lookahead.{aheadLeft}
 use Rattle.source.specs.Stream.{head, tail}
 use Rattle.source.specs.Trigraphs.{trigraphs}
-use Rattle.source.proofs.Windows.{window-some, window-none}
+use Rattle.source.proofs.Marks.{at-end, at-other}
+use Rattle.source.proofs.Streams.{put-one}
 use Rattle.source.proofs.trigraph.TrigraphsSource.take.Needs as need
 
-pub returns-in-Byte-Some : need.returns-in-Byte-Some
-returns-in-Byte-Some g c =
-    let e = window-some _ _ _ _ _ (g .B·Source .rest (c .args .self .now .below)) (c .in-Byte-Some .is-0) (c .in-Byte-Some .ensures tt) in
-    record { answer = ap head (sym e); after = ap trigraphs (c .refill .ensures) ∙ ap tail (sym e) }
+pub returns-in-End : need.returns-in-End
+returns-in-End g c =
+    let left = aheadLeft (g .B·Source .rest) in
+    let end = c .in-End .ensures tt in
+    let k = at-end (left (c .args .self .now .below)) (left (c .next .last .self)) _ (end .answer) (end .after) in
+    record { answer = k .answer; after = k .after }
 
-pub returns-in-Byte-None : need.returns-in-Byte-None
-returns-in-Byte-None g c =
-    let e = window-none _ _ _ _ (g .B·Source .rest (c .args .self .now .below)) (c .in-Byte-None .is-0) (c .in-Byte-None .ensures tt) in
-    record { answer = ap head (sym e); after = ap trigraphs (c .shift .ensures) ∙ ap tail (sym e) }
+pub returns-then-first-eq63 : need.returns-then-first-eq63
+returns-then-first-eq63 g c =
+    let first = c .in-Byte .ensures tt in
+    let same = put-one (first .answer) (first .after) in
+    record {
+      answer = c .take-behind .ensures .answer ∙ ap (λ s. head (trigraphs s)) same;
+      after = c .take-behind .ensures .after ∙ ap (λ s. tail (trigraphs s)) same;
+    }
+
+pub returns-else-first-eq63 : need.returns-else-first-eq63
+returns-else-first-eq63 g c =
+    let left = aheadLeft (g .B·Source .rest) in
+    let first = c .in-Byte .ensures tt in
+    let k = at-other _ (left (c .args .self .now .below)) (left (c .next .last .self)) (first .answer) (first .after) (c .if-first-eq63 .left) in
+    record { answer = k .answer; after = k .after }

@@ -1,6 +1,6 @@
 use Rattle.source.specs.Phases.{linesLeft}
 use Rattle.lexer.proofs.Counts.{count-falls}
-use Rattle.tokens.proofs.print_lines.Needs as need
+use Rattle.tokens.proofs.list.Needs as need
 
 pub loop-ending-less : need.loop-ending-less
 loop-ending-less g c =
