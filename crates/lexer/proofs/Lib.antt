@@ -8,10 +8,12 @@ pub mod Lines
 pub mod Literals
 pub mod Names
 pub mod Numerals
+pub mod Only
 pub mod Punctuators
 pub mod Reaching
 pub mod Rooms
 pub mod Sofar
 pub mod Sound
 pub mod Turns
+pub mod Unclosed
 pub mod Words

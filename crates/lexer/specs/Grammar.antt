@@ -69,6 +69,9 @@ pub data Cuts : Bool → List Placed → Result (List Token) Fault → Type 0 wh
   long : {m : Bool} {k : Kind} (p : Placed) (ps rest : List Placed) → white (p .byte) ≡ false → Spells k (map byteOf (p ∷ ps)) → Longest (map byteOf (p ∷ ps)) (map byteOf rest) → (Unclosed (map byteOf ((p ∷ ps) ++ rest)) → ⊥) → 1023 < length (p ∷ ps) → Cuts m ((p ∷ ps) ++ rest) (Err (record { kind = LongToken; line = p .line }))
   open-literal : {m : Bool} {p : Placed} {ps : List Placed} → Unclosed (map byteOf (p ∷ ps)) → Cuts m (p ∷ ps) (Err (record { kind = OpenLiteral; line = p .line }))
 
--- the definition of cutting cuts every line by the grammar
-abbrev pub Lexical : Type 0
-Lexical = (ps : List Placed) → Cuts true ps (cutLine ps)
+-- the definition of cutting is what the grammar says
+pub record Lexical : Type 0 where
+  -- every line is cut by the grammar
+  pub cuts : (ps : List Placed) → Cuts true ps (cutLine ps)
+  -- and in no other way
+  pub only : (ps : List Placed) (r : Result (List Token) Fault) → Cuts true ps r → r ≡ cutLine ps
