@@ -27,6 +27,11 @@ use Rattle.source.specs.Stream.{Stream, ends, head, tail, put}
 abbrev pub failing : FaultKind → ℕ → Ending
 failing k line = Fails (record { kind = k; line = line })
 
+-- what the ending of a file is on a line
+abbrev pub closing : shelf.Ending → ℕ → Ending
+closing file.Whole line = Whole
+closing file.Broken line = failing BrokenFile line
+
 -- the line behind a byte
 abbrev pub lineBehind : ℕ → ℕ → ℕ
 lineBehind b line = cond (eqb b 10) (line + 1) line
@@ -38,8 +43,7 @@ placing n line b =
 
 -- bytes and their ending, with n bytes before them, from a line on
 abbrev pub text : ℕ → ℕ → List ℕ → shelf.Ending → Stream
-text n line [] file.Whole = ends Whole
-text n line [] file.Broken = ends (failing BrokenFile line)
+text n line [] e = ends (closing e line)
 text n line (b ∷ bs) e = put (placing n line b) (text (n + 1) (lineBehind b line) bs e)
 
 -- a text in memory, which ends whole
