@@ -1,5 +1,5 @@
 -- How many lines are left, for a loop over the lines of a reader. Assumes nothing.
-use mathlib.Core.Path.{_≡_, sym, _∙_}
+use mathlib.Core.Path.{_≡_}
 use Prim.Native.Nat.{ℕ, suc, _<_}
 use native.Mathlib.Omega.{arith}
 use Rattle.source.specs.declared.reader.NextLine.the-variants.{Newline}

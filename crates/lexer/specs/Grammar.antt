@@ -11,7 +11,6 @@ use Rattle.text.specs.Bytes.{digit, nameByte, mark}
 use Rattle.text.specs.Placing.{byteOf}
 use Rattle.text.specs.declared.Placed.{Placed}
 use Rattle.text.specs.declared.Fault.{Fault}
-use Rattle.text.specs.declared.FaultKind.{FaultKind}
 use Rattle.text.specs.declared.FaultKind.the-variants.{OpenLiteral, LongToken}
 use Rattle.token.specs.declared.Kind.{Kind}
 use Rattle.token.specs.declared.Kind.the-variants.{Identifier, Number, Character, String, Punctuator, Other}

@@ -2,27 +2,20 @@
 use mathlib.Core.Path.{_≡_, refl, sym, ap, subst, _∙_}
 use mathlib.Core.Logic.{⊎-elim}
 use mathlib.Core.List.{List, [], _∷_, map}
-use Prim.Native.Nat.{ℕ, zero, suc, _+_, _-_, _≤_, _<_, min}
-use native.Mathlib.Nat.{min-eq-left, min-eq-right, le-of-lt, le-refl}
+use Prim.Native.Nat.{ℕ, zero, suc, _+_, _≤_, _<_, min}
+use native.Mathlib.Nat.{min-eq-left, min-eq-right, le-of-lt}
 use native.Mathlib.Numerals.{add-one}
 use native.Mathlib.Omega.{arith}
-use lib.ListN.{length, take, drop}
+use lib.ListN.{length, drop}
 use denote.Ref.{RefT}
 use Rattle.std.specs.Finite.{nth}
 use Rattle.std.specs.Options.{mapped}
 use Rattle.std.specs.Places.{Item}
 use Rattle.std.specs.declared.option.Option.{Option}
 use Rattle.std.specs.declared.option.Option.the-variants.{Some, None}
-use Rattle.std.proofs.shelf.Lists.{take-all, drop-all, take-rest}
+use Rattle.std.proofs.shelf.Lists.{drop-all}
 use Rattle.std.proofs.shelf.Tests.{cases-lt}
 use Rattle.std.proofs.shelf.Maps.{nth-getD, nth-past}
-
-take-min : {A : Type 0} (n : ℕ) (xs : List A) → take (min n (length xs)) xs ≡ take n xs
-take-min n xs =
-    ⊎-elim
-    (λ h. ap (λ k. take k xs) (min-eq-left (le-of-lt h)))
-    (λ h. ap (λ k. take k xs) (min-eq-right h) ∙ take-all (length xs) xs (le-refl _) ∙ sym (take-all n xs h))
-    (cases-lt n (length xs))
 
 -- a bound that is at least the length changes nothing
 pub drop-capped : {A : Type 0} (xs : List A) (n m k : ℕ) → length xs ≤ m → k ≡ min n m → drop k xs ≡ drop n xs
@@ -31,12 +24,6 @@ drop-capped xs n m k l e =
     (λ h. ap (λ j. drop j xs) (e ∙ min-eq-left (le-of-lt h)))
     (λ h. drop-all k xs (subst (λ j. length xs ≤ j) (sym (e ∙ min-eq-right h)) l) ∙ sym (drop-all n xs (omega arith)))
     (cases-lt n m)
-
--- the part that starts at s and is n long, cut to the list
-pub part-capped : {A : Type 0} (xs : List A) (s n a b : ℕ) → a ≡ min s (length xs) → b ≡ min n (length (take (length xs - a) (drop a xs))) → take b (take (length xs - a) (drop a xs)) ≡ take n (drop s xs)
-part-capped xs s n a b p q =
-    let rest = take-rest xs a in
-    ap (λ k. take k (take (length xs - a) (drop a xs))) q ∙ take-min n _ ∙ ap (take n) (rest ∙ drop-capped xs s (length xs) a (le-refl _) p)
 
 -- what `get` answers
 pub nth-get : {A : Type 0} {xs ys : List A} {i : ℕ} {r o : Option (RefT A)} → xs ≡ ys → Item xs i i r → r ≡ o → nth ys i ≡ mapped (λ x. x .now) o

@@ -7,7 +7,6 @@ use lib.ListN.{length, take, drop}
 use Rattle.std.specs.Of.Vec.{vec-items}
 use Rattle.std.specs.declared.option.Option.{Option}
 use Rattle.std.specs.declared.option.Option.the-variants.{Some, None}
-use Rattle.shelf.specs.declared.Ending.{Ending}
 use Rattle.shelf.specs.declared.Ending.the-variants.{Whole, Broken}
 use Rattle.shelf.specs.declared.catalog.Extent.{Extent}
 use Rattle.shelf.specs.declared.catalog.Entry.{Entry}

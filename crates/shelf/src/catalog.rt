@@ -8,6 +8,7 @@ ghost use Rattle.shelf.specs.Files.{firstNamed, at, readAt};
 ghost use Rattle.shelf.specs.Makes.{part, fits, entryFile, catalogFiles};
 use crate::Ending;
 use crate::Reading;
+use text::bytes::slice_of;
 
 // A part of a text: where it starts and how long it is. It may run past the text.
 #[derive(Clone, Copy)]
@@ -43,8 +44,7 @@ pub(crate) fn fits_in(text: &[u8], extent: Extent) -> bool
 fn part_of(text: &[u8], extent: Extent) -> &[u8]
     ensures { λ r. ⌜ now r ≡ part (now (text .entry)) extent ⌝ }
 {
-    let rest = &text[extent.start.min(text.len())..];
-    &rest[..extent.len.min(rest.len())]
+    slice_of(text, extent.start, extent.len)
 }
 
 // Whether the bytes of the extent are the name.

@@ -9,7 +9,7 @@ use lib.ListN.{length}
 use Rattle.std.proofs.shelf.Lists.{length-push}
 use Rattle.std.proofs.shelf.Tests.{cond-false, eq-eqb, ne-eqb, ltb-false}
 use Rattle.std.specs.declared.option.Option.{Option}
-use Rattle.std.specs.declared.option.Option.the-variants.{Some, None}
+use Rattle.std.specs.declared.option.Option.the-variants.{None}
 use Rattle.source.specs.declared.Ending.{Ending}
 use Rattle.text.specs.declared.FaultKind.the-variants.{LongLine}
 use Rattle.text.specs.declared.Placed.{Placed}

@@ -1,6 +1,5 @@
 -- What the trigraph layer does with the bytes at its front. Assumes nothing.
 use mathlib.Core.Path.{_≡_, refl, sym, ap, _∙_}
-use mathlib.Core.Bool.{false, _&&_}
 use Prim.Native.Nat.{ℕ}
 use lib.Dec.{eqb}
 use Rattle.std.specs.declared.option.Option.{Option}
@@ -8,7 +7,6 @@ use Rattle.std.specs.declared.option.Option.the-variants.{Some, None}
 use Rattle.std.proofs.shelf.Tests.{cond-false, and-left, ne-eqb}
 use Rattle.text.specs.declared.Placed.{Placed}
 use Rattle.source.specs.declared.Ending.{Ending}
-use Rattle.source.specs.declared.Taken.{Taken}
 use Rattle.source.specs.declared.Taken.the-variants.{Byte, End}
 use Rattle.source.specs.Stream.{Stream, _▸_, ends, head, tail}
 use Rattle.source.specs.Trigraphs.{replacement, trigraph, trigraphs}

@@ -1,11 +1,10 @@
 -- One answer of a text at a position. Assumes nothing.
-use mathlib.Core.Path.{_≡_, refl, sym, ap, subst, _∙_}
-use mathlib.Core.Bool.{true, false, cond}
+use mathlib.Core.Path.{_≡_, refl, sym, ap, _∙_}
+use mathlib.Core.Bool.{true, false}
 use mathlib.Core.List.{List, [], _∷_}
 use Prim.Native.Nat.{ℕ, zero, suc, _+_, _≤_, _<_}
 use native.Mathlib.Numerals.{add-one}
 use native.Mathlib.Omega.{arith}
-use lib.Dec.{ltb}
 use lib.ListN.{length, getD, drop}
 use borrow.Author.Tests.{lt-ltb, le-ltb}
 use Rattle.std.proofs.shelf.Tests.{cond-true, cond-false}
@@ -15,14 +14,13 @@ use Rattle.shelf.specs.declared.Ending.the-variants as file
 use Rattle.shelf.specs.declared.Reading.{Reading}
 use Rattle.shelf.specs.declared.Reading.the-variants as reading
 use Rattle.source.specs.declared.Ending.{Ending}
-use Rattle.source.specs.declared.Ending.the-variants.{Whole, Fails}
+use Rattle.source.specs.declared.Ending.the-variants.{Whole}
 use Rattle.text.specs.declared.FaultKind.the-variants.{BrokenFile, BadByte, LongFile}
-use Rattle.text.specs.declared.Placed.{Placed}
 use Rattle.source.specs.declared.Taken.{Taken}
 use Rattle.source.specs.declared.Taken.the-variants.{Byte, End}
 use Rattle.source.specs.declared.position.Position.{Position}
 use Rattle.text.specs.Bytes.{admitted}
-use Rattle.source.specs.Stream.{Stream, ends, head, tail, put, _▸_}
+use Rattle.source.specs.Stream.{Stream, ends, head, tail, put}
 use Rattle.source.specs.Texts.{failing, lineBehind, placing, text, textFrom, Reads}
 
 -- where a byte is read, it is the first of what is left

@@ -11,7 +11,7 @@ use Rattle.source.specs.declared.Taken.{Taken}
 use Rattle.source.specs.declared.Taken.the-variants.{Byte, End}
 use Rattle.source.specs.Stream.{Stream, _▸_, ends, head, tail}
 use Rattle.source.specs.Splices.{splice, splices, opening, closed}
-use Rattle.source.proofs.Streams.{Gives, gives, put-one}
+use Rattle.source.proofs.Streams.{Gives, put-one}
 
 abbrev chosen : Placed → Stream → Stream → Bool → Stream
 chosen a gone kept t = elim t [ true ↦ gone | false ↦ a ▸ kept ]

@@ -1,7 +1,5 @@
 -- Answers taken from a stream and put back. Assumes nothing.
 use mathlib.Core.Path.{_≡_, refl, sym, ap, _∙_}
-use Prim.Native.Nat.{ℕ, _+_, _<_}
-use native.Mathlib.Omega.{arith}
 use Rattle.source.specs.declared.Taken.{Taken}
 use Rattle.source.specs.declared.Taken.the-variants.{Byte, End}
 use Rattle.source.specs.Stream.{Stream, _▸_, ends, head, tail, put}

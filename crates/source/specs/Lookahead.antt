@@ -1,5 +1,4 @@
 -- Bytes that were taken from a source and put back. Assumes nothing.
-use Rattle.text.specs.declared.Placed.{Placed}
 use Rattle.source.specs.declared.lookahead.Held.{Held}
 use Rattle.source.specs.declared.lookahead.Held.the-variants.{Nothing, One, Two}
 use Rattle.source.specs.declared.lookahead.Lookahead.{Lookahead}

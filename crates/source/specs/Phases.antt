@@ -1,6 +1,5 @@
 -- The phases before tokens, one after another over a whole text. Assumes nothing.
 use mathlib.Core.List.{List}
-use Prim.Native.Nat.{ℕ}
 use Rattle.std.specs.declared.option.Option.{Option}
 use Rattle.std.specs.declared.option.Option.the-variants.{Some, None}
 use Rattle.shelf.specs.Files.{File}

@@ -4,7 +4,6 @@ use Prim.Native.Nat.{ℕ}
 use lib.Chars.{codes}
 use lib.Dec.{eqb}
 use Rattle.std.specs.Finite.{lookup}
-use Rattle.std.specs.Options.{mapped}
 use Rattle.std.specs.declared.option.Option.{Option}
 use Rattle.std.specs.declared.option.Option.the-variants.{Some, None}
 use Rattle.source.specs.declared.lookahead.Held.{Held}

@@ -4,11 +4,10 @@ use mathlib.Core.Bool.{true, _&&_}
 use mathlib.Core.List.{List, [], _∷_, _++_, map}
 use Prim.Native.Nat.{ℕ, _+_, _<_, _≤_}
 use native.Mathlib.Nat.{zero-add}
-use native.Mathlib.Omega.{arith}
 use lib.Dec.{leb, ltb}
 use lib.ListN.{length, length-map}
 use Rattle.std.specs.Of.Vec.{vec-items, vec-len}
-use Rattle.std.proofs.shelf.Tests.{and-parts, and-from, ltb-true, leb-true, lt-ltb, le-leb}
+use Rattle.std.proofs.shelf.Tests.{and-parts, ltb-true, leb-true}
 use Rattle.token.specs.declared.TokenRef.{TokenRef}
 use Rattle.token.specs.declared.record.Record.{Record}
 use Rattle.token.specs.declared.table.TokenTable.{TokenTable}

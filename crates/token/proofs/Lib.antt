@@ -1,4 +1,3 @@
-pub mod Clipped
 pub mod Filled
 pub mod Packed
 pub mod Viewed

@@ -1,12 +1,13 @@
 // The tokens of a table, to be read.
 ghost use mathlib.Core.Path.{_≡_};
-ghost use lib.ListN.{length, take, drop};
+ghost use lib.ListN.{length};
 ghost use Rattle.std.specs.Finite.{nth};
 ghost use Rattle.std.specs.Options.{mapped};
 ghost use Rattle.token.specs.Tables.{recordToken, referred};
 ghost use Rattle.token.specs.Views.{viewTokens};
 use crate::TokenRef;
 use crate::record::Record;
+use text::bytes::slice_of;
 
 #[derive(Clone, Copy)]
 pub struct Tokens<'a> {
@@ -39,17 +40,8 @@ fn token_of(text: &[u8], record: Record) -> TokenRef<'_>
 {
     TokenRef {
         kind: record.kind,
-        spelling: part_of(text, record.start, record.len),
+        spelling: slice_of(text, record.start, record.len),
         line: record.line,
         marked: record.marked,
     }
-}
-
-// The bytes from a start on, as many as are wanted or there are.
-fn part_of(text: &[u8], start: usize, len: usize) -> &[u8]
-    ensures { λ r. ⌜ now r ≡ take len (drop start (now (text .entry))) ⌝ }
-{
-    let start = start.min(text.len());
-    let len = len.min(text.len() - start);
-    &text[start..start + len]
 }

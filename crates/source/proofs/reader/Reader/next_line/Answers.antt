@@ -1,7 +1,6 @@
 use mathlib.Core.Path.{sym}
-use Rattle.source.specs.Lines.{held, Lines}
+use Rattle.source.specs.Lines.{held}
 use Rattle.source.specs.Phases.{streamLeft, linesLeft}
-use Rattle.source.specs.Stream.{Stream}
 use Rattle.source.proofs.Cutting.{ending, newline, limit, more, falls}
 use Rattle.source.proofs.reader.Reader.next_line.Needs as need
 

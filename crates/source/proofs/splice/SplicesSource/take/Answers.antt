@@ -1,7 +1,6 @@
 use mathlib.Core.Path.{sym, ap, _∙_}
 use Rattle.source.specs.Lookahead.{aheadLeft}
-use Rattle.source.specs.Splices.{closed, splicedFrom, splices}
-use Rattle.source.proofs.Streams.{Gives}
+use Rattle.source.specs.Splices.{closed}
 use Rattle.source.proofs.Splicing.{at-other, then-end, then-other, gone, handed, ended}
 use Rattle.source.proofs.splice.SplicesSource.take.Needs as need
 
