@@ -8,7 +8,7 @@ ghost use Rattle.shelf.specs.Files.{firstNamed, at, readAt};
 ghost use Rattle.shelf.specs.Makes.{part, fits, entryFile, catalogFiles};
 use crate::Ending;
 use crate::Reading;
-use text::bytes::slice_of;
+use text::slice_of;
 
 // A part of a text: where it starts and how long it is. It may run past the text.
 #[derive(Clone, Copy)]

@@ -1,6 +1,5 @@
-// What a byte may be, and parts of bytes.
+// What a byte may be.
 ghost use mathlib.Core.Path.{_≡_};
-ghost use lib.ListN.{take, drop};
 ghost use Rattle.text.specs.Bytes.{digit, nameByte, admitted, mark as opensLiteral, quoting};
 
 pub fn is_digit(byte: u8) -> bool
@@ -41,13 +40,4 @@ pub fn quote(mark: u8, escaped: bool, byte: u8) -> Option<bool>
     } else {
         Some(byte == b'\\')
     }
-}
-
-// The bytes from a start on, as many as are wanted or there are.
-pub fn slice_of(bytes: &[u8], start: usize, len: usize) -> &[u8]
-    ensures { λ r. ⌜ now r ≡ take len (drop start (now (bytes .entry))) ⌝ }
-{
-    let start = start.min(bytes.len());
-    let len = len.min(bytes.len() - start);
-    &bytes[start..start + len]
 }

@@ -3,6 +3,9 @@ ghost use mathlib.Core.Path.{_≡_};
 ghost use Rattle.text.specs.Faults.{faultNumber, faultPhase};
 
 pub mod bytes;
+mod slices;
+
+pub use slices::slice_of;
 
 // A byte and the physical line that it stands on.
 #[derive(Clone, Copy)]

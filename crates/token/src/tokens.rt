@@ -1,13 +1,13 @@
 // The tokens of a table, to be read.
 ghost use mathlib.Core.Path.{_≡_};
-ghost use lib.ListN.{length};
+ghost use lib.ListN.{length, take, drop};
 ghost use Rattle.std.specs.Finite.{nth};
 ghost use Rattle.std.specs.Options.{mapped};
 ghost use Rattle.token.specs.Tables.{recordToken, referred};
 ghost use Rattle.token.specs.Views.{viewTokens};
 use crate::TokenRef;
 use crate::record::Record;
-use text::bytes::slice_of;
+use text::slice_of;
 
 #[derive(Clone, Copy)]
 pub struct Tokens<'a> {
@@ -31,6 +31,16 @@ impl<'a> Tokens<'a> {
             return None;
         }
         Some(token_of(self.text, self.records[index]))
+    }
+
+    // The tokens from a start on, as many as are wanted or there are.
+    pub fn part(&self, start: usize, len: usize) -> Tokens<'a>
+        ensures { λ r. ⌜ viewTokens r ≡ take len (drop start (viewTokens (now (self .entry)))) ⌝ }
+    {
+        Tokens {
+            records: slice_of(self.records, start, len),
+            text: self.text,
+        }
     }
 }
 
