@@ -29,11 +29,11 @@ abbrev pub ontoAll : List Placed → Lines → Lines
 ontoAll [] ls = ls
 ontoAll (p ∷ ps) ls = onto p (ontoAll ps ls)
 
-onto-line : (ps : List Placed) (n : ℕ) (ls : Lines) → ontoAll ps (line [] n ls) ≡ line ps n ls
+pub onto-line : (ps : List Placed) (n : ℕ) (ls : Lines) → ontoAll ps (line [] n ls) ≡ line ps n ls
 onto-line [] n ls = refl
 onto-line (p ∷ ps) n ls = ap (onto p) (onto-line ps n ls)
 
-onto-stop : (ps : List Placed) (e : Ending) → ontoAll ps (stop e) ≡ stop e
+pub onto-stop : (ps : List Placed) (e : Ending) → ontoAll ps (stop e) ≡ stop e
 onto-stop [] e = refl
 onto-stop (p ∷ ps) e = ap (onto p) (onto-stop ps e)
 
@@ -42,7 +42,7 @@ onto-push [] p ls = refl
 onto-push (q ∷ ps) p ls = ap (onto q) (onto-push ps p ls)
 
 -- what a line does with its next byte, by the two tests
-abbrev next : ℕ → ℕ → Placed → Stream → Bool → Bool → Lines
+abbrev pub next : ℕ → ℕ → Placed → Stream → Bool → Bool → Lines
 next n first p s newline room =
     elim newline [
       | true ↦ line [] (p .line) (cutting 0 0 s)

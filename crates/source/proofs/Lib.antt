@@ -1,5 +1,6 @@
 pub mod Cutting
 pub mod Held
+pub mod LineByLine
 pub mod Mapped
 pub mod Mapping
 pub mod Marks

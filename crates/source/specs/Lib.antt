@@ -1,4 +1,5 @@
 pub mod Comments
+pub mod LineLaw
 pub mod Lines
 pub mod Lookahead
 pub mod Phases

@@ -2,6 +2,7 @@
 ghost use mathlib.Core.Path.{_≡_};
 ghost use Rattle.source.specs.declared.Ending.the-variants.{Fails};
 ghost use Rattle.source.specs.declared.reader.NextLine.the-variants.{End};
+ghost use Rattle.source.specs.LineLaw.{LineByLine};
 ghost use Rattle.source.specs.Lines.{held, lineHead, lineBytes, lineTail, stop as only};
 ghost use Rattle.source.specs.Texts.{fileLeft};
 ghost use Rattle.source.specs.Phases.{logicalLines, linesLeft, pendingLines, shelfRead};
@@ -62,6 +63,7 @@ impl<B: Source> Reader<B> {
     pub fn new(bottom: B) -> Reader<B>
         ensures lines { λ r. ⌜ linesLeft (B·Source .rest) r ≡ logicalLines (B·Source .rest bottom) ⌝ }
         ensures pieces { λ _. ⌜ PieceByPiece ⌝ }
+        ensures cut { λ _. ⌜ LineByLine ⌝ }
     {
         Reader {
             layers: Comments::new(Splices::new(Trigraphs::new(bottom))),
