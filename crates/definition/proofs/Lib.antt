@@ -1,0 +1,4 @@
+pub mod Further
+pub mod Lists
+pub mod Names
+pub mod Reading
