@@ -30,13 +30,14 @@ pub(crate) fn has_parameter(tokens: Tokens<'_>, word: &[u8]) -> bool
     false
 }
 
-// Whether a token and the next are a name and a comma, and no later parameter is called so.
+// Whether the first two are a name and a comma, and no later parameter is called so.
 fn is_fresh(name: TokenRef<'_>, comma: TokenRef<'_>, later: Tokens<'_>) -> bool
     ensures { λ r. ⌜ r ≡ freshName (referred (name .entry)) (referred (comma .entry)) (viewTokens (later .entry)) ⌝ }
 {
     is_nameable(name) && same(comma.spelling, b",") && !has_parameter(later, name.spelling)
 }
 
+// Whether a name and a comma stand first, and no later parameter is called so.
 fn starts_names(tokens: Tokens<'_>) -> bool
     ensures { λ r. ⌜ r ≡ startsNames (viewTokens (tokens .entry)) ⌝ }
 {
@@ -49,6 +50,7 @@ fn starts_names(tokens: Tokens<'_>) -> bool
     is_fresh(name, comma, behind(tokens, 2))
 }
 
+// Whether the first token may be the last parameter.
 fn ends_names(tokens: Tokens<'_>) -> bool
     ensures { λ r. ⌜ r ≡ endsNames (viewTokens (tokens .entry)) ⌝ }
 {

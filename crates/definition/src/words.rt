@@ -7,6 +7,7 @@ ghost use Rattle.definition.specs.Words.{predefined, wordOf, lastName};
 use token::Kind;
 use token::TokenRef;
 
+// What the parameter `...` is called.
 pub(crate) const VARIABLE: &[u8] = b"__VA_ARGS__";
 
 pub(crate) fn same(left: &[u8], right: &[u8]) -> bool
@@ -64,7 +65,7 @@ pub(crate) fn is_last_name(token: TokenRef<'_>) -> bool
     is_nameable(token) || same(token.spelling, b"...")
 }
 
-// What a parameter is called in the replacement list.
+// Whether the parameter is called so in the replacement list.
 pub(crate) fn is_called(token: TokenRef<'_>, word: &[u8]) -> bool
     ensures { λ r. ⌜ r ≡ sameBytes (now (word .entry)) (wordOf (referred (token .entry))) ⌝ }
 {

@@ -13,9 +13,9 @@ use Rattle.text.specs.declared.FaultKind.the-variants.{LongLine}
 use Rattle.text.specs.declared.Placed.{Placed}
 use Rattle.source.specs.declared.Ending.{Ending}
 use Rattle.source.specs.LineLaw.{LineByLine}
-use Rattle.source.specs.Lines.{Lines, line, stop, onto, cutting}
+use Rattle.source.specs.Lines.{line, stop, onto, cutting}
 use Rattle.source.specs.Pieces.{_▸▸_, OneLine}
-use Rattle.source.specs.Pieces.OneLine.{nothing, and}
+use Rattle.source.specs.Pieces.OneLine.{and}
 use Rattle.source.specs.Stream.{Stream, _▸_, ends}
 use Rattle.source.specs.Texts.{failing}
 use Rattle.source.proofs.Cutting.{next, ontoAll, onto-line, onto-stop}

@@ -8,7 +8,7 @@ use lib.ListN.{length}
 use Rattle.text.specs.declared.FaultKind.the-variants.{LongLine}
 use Rattle.text.specs.declared.Placed.{Placed}
 use Rattle.source.specs.declared.Ending.{Ending}
-use Rattle.source.specs.Lines.{Lines, line, stop, cutting}
+use Rattle.source.specs.Lines.{line, stop, cutting}
 use Rattle.source.specs.Pieces.{_▸▸_, OneLine}
 use Rattle.source.specs.Stream.{Stream, _▸_, ends}
 use Rattle.source.specs.Texts.{failing}
