@@ -8,9 +8,9 @@ use Rattle.std.specs.declared.option.Option.{Option}
 use Rattle.std.specs.declared.option.Option.the-variants.{Some, None}
 use Rattle.token.specs.Tokens.{Token}
 use Rattle.definition.specs.Definitions.{Macro, isIdentifier, hash, join}
-use Rattle.replacement.specs.Items.{Item, with, shared, End, whole, fault, Outcome, failing, after, _then_, over}
+use Rattle.replacement.specs.Items.{limited, Item, with, shared, End, whole, fault, Outcome, failing, after, _then_, over}
 use Rattle.replacement.specs.Joining.{Piece, piece, joiner, nothing, Join, good, bad, literal, joining, operand, joinAll}
-use Rattle.replacement.specs.Replacing.{found, Gathered, opens, gathered, arguments, Expander, argumentOf, operandOf, expanded, substituted, built, limitedPieces, joinedOutcome, result, Move, hand, go, halt, before, counting, builtIn, called, applied, replaced, step}
+use Rattle.replacement.specs.Replacing.{found, Gathered, opens, gathered, arguments, Expander, argumentOf, operandOf, argumentPieces, expanded, substituted, built, limitedPieces, joinedOutcome, result, Move, hand, go, halt, before, counting, builtIn, called, applied, replaced, step}
 
 -- an expander that never gives back more than it was given
 abbrev pub Modest : Expander → Type 0
@@ -64,12 +64,17 @@ joined-left : (line k : ℕ) (is : List Piece) (end : End) (left : ℕ) → left
 joined-left line k is whole left p = joinAll-left line left k None is p
 joined-left line k is (fault n l) left p = p
 
+pieces-left : (m : Bool) (is : List Item) (end : End) (left k : ℕ) → left ≤ k → argumentPieces m is end left .left ≤ k
+pieces-left m is whole left k p = p
+pieces-left m is (fault n l) left k p = p
+
 -- a list and its result
 module _ (e : Expander) (h : Modest e) where
   expanded-left : (line : ℕ) (m : Bool) (is : List Item) (left k : ℕ) → left ≤ k → expanded e line m is left .left ≤ k
   expanded-left line m is left k p =
       let q : e line left is .left ≤ k = omega (arith, h line left is) in
-      cond-left k (over (e line left is .items)) (failing 64 line (e line left is .left)) (e line left is) q q
+      let o = limited line (e line left is) in
+      pieces-left m (o .items) (o .ending) (o .left) k (cond-left k (over (e line left is .items)) (failing 64 line (e line left is .left)) (e line left is) q q)
 
   substituted-left : (line : ℕ) (beside : Bool) (t : Token) (a : Option (List Item)) (left k : ℕ) → left ≤ k → substituted e line beside t a left .left ≤ k
   substituted-left line beside t None left k p = p

@@ -18,7 +18,7 @@ use Rattle.lexer.specs.Cutting.{oneToken}
 use Rattle.definition.specs.Definitions.{Macro, member, variable, isIdentifier, hash, join}
 use Rattle.replacement.specs.Items.{Item, fresh, markingFirst, placing, with, shared, hiding, End, whole, fault, Outcome, failing, giving, after, _then_, over, limited}
 use Rattle.replacement.specs.Joining.{Piece, piece, joiner, nothing, literal, isString, inner, joinedToken, operand, Join, good, bad, judged, joining, joinAll, settled as kept}
-use Rattle.replacement.specs.Replacing.{found, place, Gathered, andInside, opens, closes, comma, gathered, ontoFirst, parted, isNil, arguments, Expander, raw, expanded, argumentOf, operandOf, substituted, built, limitedPieces, pieceBytes, joinedOutcome, result, Move, hand, go, halt, before, counting, builtIn, called, applied, replaced, step, Step, Turn, alongRun, along, turns, levels, expand}
+use Rattle.replacement.specs.Replacing.{found, place, Gathered, andInside, opens, closes, comma, gathered, ontoFirst, parted, isNil, arguments, Expander, raw, argumentPieces, expanded, argumentOf, operandOf, substituted, built, limitedPieces, pieceBytes, joinedOutcome, result, Move, hand, go, halt, before, counting, builtIn, called, applied, replaced, step, Step, Turn, alongRun, along, turns, levels, expand}
 use Rattle.replacement.specs.Laws.{builtIns, Open, none, and, settled, Settled}
 
 -- Lists and options each of whose elements has a property
@@ -145,11 +145,15 @@ clear-raw : (m : Bool) (a : List Item) → Each Clear a → Each ClearPiece (raw
 clear-raw m [] h = (tt, tt)
 clear-raw m (i ∷ is) h = (h .0, each-map Clear ClearPiece piece (λ x c. c) is (h .1))
 
+clear-pieces : (m : Bool) (is : List Item) (end : End) (left : ℕ) → Each Clear is → ClearPieces (argumentPieces m is end left)
+clear-pieces m is whole left h = each-map Clear ClearPiece piece (λ x d. d) (markingFirst m is) (clear-first m is h)
+clear-pieces m is (fault n l) left h = tt
+
 clear-expanded : (e : Expander) → Opening e → (line : ℕ) (m : Bool) (a : List Item) (left : ℕ) → Each Clear a → ClearPieces (expanded e line m a left)
 clear-expanded e k line m a left h =
     let o = limited line (e line left a) in
     let c : ClearAll o = cond-both (over (e line left a .items)) (failing 64 line (e line left a .left)) (e line left a) ClearAll (λ _. tt) (λ _. k line left a h) in
-    each-map Clear ClearPiece piece (λ x d. d) (markingFirst m (o .items)) (clear-first m (o .items) c)
+    clear-pieces m (o .items) (o .ending) (o .left) c
 
 picked : (args : List (List Item)) → Each (Each Clear) args → (o : Option ℕ) → Perhaps (Each Clear) (elim o [ None ↦ None | Some k ↦ nth args k ])
 picked args h None = tt

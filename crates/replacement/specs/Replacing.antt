@@ -88,17 +88,13 @@ abbrev pub raw : Bool → List Item → List Piece
 raw m [] = nothing ∷ []
 raw m (i ∷ is) = piece (marking m i) ∷ map piece is
 
-abbrev pub asPieces : Outcome Item → Outcome Piece
-asPieces o = record { items = map piece (o .items); ending = o .ending; left = o .left }
+-- what an argument expanded to, the first token with the parameter's mark; one that met a fault gives nothing but that
+abbrev pub argumentPieces : Bool → List Item → End → ℕ → Outcome Piece
+argumentPieces m is whole left = giving (map piece (markingFirst m is)) left
+argumentPieces m is (fault n l) left = failing n l left
 
 abbrev pub expanded : Expander → ℕ → Bool → List Item → ℕ → Outcome Piece
-expanded e line m argument left =
-    let o = limited line (e line left argument) in
-    asPieces (record { items = markingFirst m (o .items); ending = o .ending; left = o .left })
-
-abbrev pub nextJoins : List Token → Bool
-nextJoins [] = false
-nextJoins (t ∷ ts) = join t
+expanded e line m argument left = let o = limited line (e line left argument) in argumentPieces m (o .items) (o .ending) (o .left)
 
 -- the argument of a token that is a parameter
 abbrev pub argumentOf : List (List ℕ) → List (List Item) → Token → Option (List Item)
