@@ -1,4 +1,6 @@
 // Macro definitions.
+#![tactic(auto)]
+
 use token::Tokens;
 
 mod list;

@@ -1,4 +1,6 @@
 // The definitions in force.
+#![tactic(auto)]
+
 use token::Tokens;
 
 mod definitions;

@@ -1,4 +1,6 @@
 // Macro replacement: a run of tokens is expanded token by token.
+#![tactic(auto)]
+
 mod build;
 mod expansion;
 mod level;

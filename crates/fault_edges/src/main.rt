@@ -1,5 +1,7 @@
 // Reads texts at the edge of each fault of phases 1 to 3 and one past it, from a table shelf and
 // from a pack shelf, and prints how many tokens each gives and how it ends.
+#![tactic(auto)]
+
 use lexer::{LineTokens, next_tokens};
 use shelf::{Entry, Extent, PackShelf, Shelf, TableShelf};
 use source::{Ending, FileSource, Line, NextLine, Reader, Source};

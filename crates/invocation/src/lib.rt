@@ -1,4 +1,6 @@
 // The run that is replaced, and the arguments behind a function-like name.
+#![tactic(auto)]
+
 mod arguments;
 mod bracket;
 mod calls;

@@ -1,4 +1,6 @@
 // Tokens on their way through replacement: hide sets, and tables of tokens with something beside each.
+#![tactic(auto)]
+
 use token::TokenRef;
 
 mod hide_set;

@@ -1,4 +1,6 @@
 // The lexer: a logical line is cut into preprocessing tokens.
+#![tactic(auto)]
+
 mod cut;
 mod line_tokens;
 mod phases;

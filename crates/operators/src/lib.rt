@@ -1,4 +1,6 @@
 // The operators # and ##, and what follows them: the result goes before W.
+#![tactic(auto)]
+
 use item::HideSet;
 
 mod hides;

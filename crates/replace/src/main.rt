@@ -1,5 +1,7 @@
 // Expands a plan that it reads from standard input: a line for each token, `LINE KIND SPELLING`, and then `// end`,
 // `// fault N phase P plan.c LINE` or, at a directive that is not handled yet, `// not handled`.
+#![tactic(auto)]
+
 use definition::read_definition;
 use definitions::Definitions;
 use directive::{Directive, directive_of};

@@ -1,4 +1,6 @@
 // Macro replacement: so far its definition, by laws and worked examples.
+#![tactic(auto)]
+
 ghost use Rattle.replacement.specs.Laws.{Unbounded, Unchanged, Settled, Parting};
 ghost use Rattle.replacement.specs.Worked.{Worked};
 

@@ -1,4 +1,6 @@
 // A shelf keeps files and never changes.
+#![tactic(auto)]
+
 ghost use Rattle.std.specs.Prelude.{◌≡◌, List, IfOk};
 ghost use Rattle.shelf.specs.Files.{File, first_named, read_at};
 ghost use Rattle.shelf.specs.Makes.{catalog_files, table_files};

@@ -1,5 +1,7 @@
 // Phases 1 to 3 up to logical lines: a text is read byte by byte through trigraphs, splices and
 // comments, and what that gives is cut into lines.
+#![tactic(auto)]
+
 ghost use Rattle.std.specs.Prelude.{◌≡◌};
 ghost use Rattle.source.specs.Stream.{Stream, head, tail, pending};
 

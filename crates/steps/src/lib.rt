@@ -1,4 +1,6 @@
 // A step of macro replacement, up to the point where a result has to be made.
+#![tactic(auto)]
+
 mod built_in;
 mod class;
 mod context;

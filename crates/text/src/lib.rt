@@ -1,4 +1,6 @@
 // What a text is made of: bytes on physical lines, and what can be wrong with them.
+#![tactic(auto)]
+
 ghost use Rattle.std.specs.Prelude.{◌≡◌};
 ghost use Rattle.text.specs.Faults.{fault_number, fault_phase};
 

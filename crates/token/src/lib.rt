@@ -1,4 +1,6 @@
 // Preprocessing tokens: their kinds, and tables of them.
+#![tactic(auto)]
+
 ghost use Rattle.std.specs.Prelude.{◌≡◌};
 ghost use Rattle.token.specs.Tokens.{kind_number};
 

@@ -1,5 +1,7 @@
 // Lists the preprocessing tokens of a plan, which it reads from standard input: a line for each,
 // `LINE KIND SPELLING`, and then `// end` or `// fault N phase P plan.c LINE`.
+#![tactic(auto)]
+
 use lexer::{LineTokens, next_tokens};
 use shelf::{Entry, Extent, Shelf, TableShelf};
 use source::{Ending, FileSource, Line, NextLine, Reader, Source};

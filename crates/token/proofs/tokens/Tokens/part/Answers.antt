@@ -7,4 +7,4 @@ pub returns : goal.returns
 returns c =
     let view = c.args.self.now in
     let token = record_token view.text.now in
-    ap (map token) c.slice-of.ensures ∙ sym (take-map token c.args.len (drop c.args.start view.records.now)) ∙ ap (take c.args.len) (sym (drop-map token c.args.start view.records.now))
+    ap (map token) c.slice_of.ensures ∙ sym (take-map token c.args.len (drop c.args.start view.records.now)) ∙ ap (take c.args.len) (sym (drop-map token c.args.start view.records.now))
