@@ -1,5 +1,6 @@
 -- Trigraph sequences. Assumes nothing.
 use Rattle.std.specs.Prelude.{ℕ, cond, ◌&&◌, Some, None, codes, Option, ◌==◌, nat_eq}
+use Rattle.std.specs.List.{zip}
 use Rattle.std.specs.Map.{lookup}
 use Rattle.source.specs.declared.lookahead.Held.{Held}
 use Rattle.source.specs.Lookahead.{ahead}
@@ -7,7 +8,7 @@ use Rattle.source.specs.Stream.{Stream, ◌▸◌, ends}
 
 -- what ?? and the byte become
 abbrev pub replacement : ℕ → Option ℕ
-replacement b = lookup nat_eq (codes "=(/)'<!>-") (codes "#[\\]^{|}~") b
+replacement b = lookup (nat_eq b) (zip (codes "=(/)'<!>-") (codes "#[\\]^{|}~"))
 
 -- what three bytes become, where the first two are question marks
 abbrev pub trigraph : ℕ → ℕ → ℕ → Option ℕ

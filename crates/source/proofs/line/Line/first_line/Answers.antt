@@ -3,8 +3,8 @@ use Rattle.std.proofs.lemmas.Bool.{cond-true, cond-false}
 use Rattle.source.proofs.Held.{length-held}
 use Rattle.source.proofs.line.Line.first_line.Goals as goal
 
-pub returns-then-is-empty : goal.returns-then-is-empty
-returns-then-is-empty c = sym (cond-true _ _ _ (ap (λ n. eqb n 0) (length-held c.args.self.now) ∙ sym c.if-is-empty.ensures))
+pub returns-then-is_empty : goal.returns-then-is_empty
+returns-then-is_empty c = sym (cond-true _ _ _ (ap (λ n. eqb n 0) (length-held c.args.self.now) ∙ sym c.if-is_empty.ensures))
 
-pub returns-else-is-empty : goal.returns-else-is-empty
-returns-else-is-empty c = sym (cond-false _ _ _ (ap (λ n. eqb n 0) (length-held c.args.self.now) ∙ sym c.if-is-empty.ensures))
+pub returns-else-is_empty : goal.returns-else-is_empty
+returns-else-is_empty c = sym (cond-false _ _ _ (ap (λ n. eqb n 0) (length-held c.args.self.now) ∙ sym c.if-is_empty.ensures))

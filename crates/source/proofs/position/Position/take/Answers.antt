@@ -8,17 +8,17 @@ returns-in-End-Whole c = let p = c.args.self.now in ends_as p (search rules) ref
 pub returns-in-End-Broken : goal.returns-in-End-Broken
 returns-in-End-Broken c = let p = c.args.self.now in ends_as p (search rules) c.fails.ensures (at_broken p)
 
-pub returns-then-offset-ge-LONGEST-TEXT : goal.returns-then-offset-ge-LONGEST-TEXT
-returns-then-offset-ge-LONGEST-TEXT c =
+pub returns-then-offset-ge-LONGEST_TEXT : goal.returns-then-offset-ge-LONGEST_TEXT
+returns-then-offset-ge-LONGEST_TEXT c =
     let p = c.args.self.now in
-    ends_as p c.in-Byte.is c.fails-then-offset-ge-LONGEST-TEXT.ensures (too_long p _ c.if-offset-ge-LONGEST-TEXT.true)
+    ends_as p c.in-Byte.is c.fails-then-offset-ge-LONGEST_TEXT.ensures (too_long p _ c.if-offset-ge-LONGEST_TEXT.true)
 
-pub returns-then-not-is-admitted : goal.returns-then-not-is-admitted
-returns-then-not-is-admitted c =
+pub returns-then-not-is_admitted : goal.returns-then-not-is_admitted
+returns-then-not-is_admitted c =
     let p = c.args.self.now in
-    ends_as p c.in-Byte.is c.fails-then-not-is-admitted.ensures (not_admitted p _ c.if-offset-ge-LONGEST-TEXT.false (sym c.if-not-is-admitted.ensures))
+    ends_as p c.in-Byte.is c.fails-then-not-is_admitted.ensures (not_admitted p _ c.if-offset-ge-LONGEST_TEXT.false (sym c.if-not-is_admitted.ensures))
 
-pub returns-else-not-is-admitted : goal.returns-else-not-is-admitted
-returns-else-not-is-admitted c =
+pub returns-else-not-is_admitted : goal.returns-else-not-is_admitted
+returns-else-not-is_admitted c =
     let p = c.args.self.now in
-    λ bs e h. placed p _ _ _ c.if-offset-ge-LONGEST-TEXT.false (sym c.if-not-is-admitted.ensures) refl c.next-line.ensures bs e (h ∙ c.in-Byte.is)
+    λ bs e h. placed p _ _ _ c.if-offset-ge-LONGEST_TEXT.false (sym c.if-not-is_admitted.ensures) refl c.next_line.ensures bs e (h ∙ c.in-Byte.is)

@@ -22,7 +22,7 @@ pub returns-then-not-push : goal.returns-then-not-push
 returns-then-not-push g c =
     let l = c.loop-placed in
     let rest = g.B.Source.rest in
-    let k = limit (held l.line) l.first (stream_left rest l.self.layers) (stream_left rest c.take.new.self) (lines_left rest c.args.self.now) l.self.stopped l.invariant.1 c.in-Byte.ensures.after l.invariant.0 _ c.in-Byte.ensures.answer _ _ _ _ c.if-placed-eq10.false (sym c.if-not-push.ensures.room) c.first-line-first.ensures c.stop.ensures.answer c.clear-then-not-push.ensures c.stop.ensures.after in
+    let k = limit (held l.line) l.first (stream_left rest l.self.layers) (stream_left rest c.take.new.self) (lines_left rest c.args.self.now) l.self.stopped l.invariant.1 c.in-Byte.ensures.after l.invariant.0 _ c.in-Byte.ensures.answer _ _ _ _ c.if-placed-eq10.false (sym c.if-not-push.ensures.room) c.first_line-first.ensures c.stop.ensures.answer c.clear-then-not-push.ensures c.stop.ensures.after in
     record { answer = k.answer; bytes = k.bytes; after = k.after }
 
 pub loop-placed-smaller : goal.loop-placed-smaller
@@ -35,4 +35,4 @@ pub loop-placed-preserved : goal.loop-placed-preserved
 loop-placed-preserved g c =
     let l = c.loop-placed in
     let rest = g.B.Source.rest in
-    (l.invariant.0, more (held l.line) l.first (stream_left rest l.self.layers) (stream_left rest c.take.new.self) (lines_left rest c.args.self.now) l.self.stopped l.invariant.1 c.in-Byte.ensures.after l.invariant.0 _ c.in-Byte.ensures.answer _ _ c.if-placed-eq10.false (sym c.if-not-push.ensures.room) c.first-line-first.ensures c.if-not-push.ensures.after)
+    (l.invariant.0, more (held l.line) l.first (stream_left rest l.self.layers) (stream_left rest c.take.new.self) (lines_left rest c.args.self.now) l.self.stopped l.invariant.1 c.in-Byte.ensures.after l.invariant.0 _ c.in-Byte.ensures.answer _ _ c.if-placed-eq10.false (sym c.if-not-push.ensures.room) c.first_line-first.ensures c.if-not-push.ensures.after)

@@ -22,14 +22,14 @@ returns-then-first-ne92 g c =
     let k = handed l.unclosed c.hand.new.self.unclosed _ (left l.below) (left c.hand.new.self.below) _ _ c.loop-first.invariant (at_other _ (left l.below) _ first.answer (same ∙ first.after) c.if-first-ne92.true) c.hand.ensures.answer c.hand.ensures.unclosed in
     record { answer = k.answer; after = k.after }
 
-pub returns-in-default : goal.returns-in-default
-returns-in-default g c =
+pub returns-in_default : goal.returns-in_default
+returns-in_default g c =
     let left = ahead_left g.B.Source.rest in
     let l = c.loop-first.self in
     let first = c.in-Byte.ensures in
-    let end = c.in-default.ensures in
-    let same = ap left c.hand-in-default.ensures.below in
-    let k = handed l.unclosed c.hand-in-default.new.self.unclosed _ (left l.below) (left c.hand-in-default.new.self.below) _ _ c.loop-first.invariant (then_end _ (left l.below) (left c.next.new.self) first.answer first.after _ _ end.answer (same ∙ end.after)) c.hand-in-default.ensures.answer c.hand-in-default.ensures.unclosed in
+    let end = c.in_default.ensures in
+    let same = ap left c.hand-in_default.ensures.below in
+    let k = handed l.unclosed c.hand-in_default.new.self.unclosed _ (left l.below) (left c.hand-in_default.new.self.below) _ _ c.loop-first.invariant (then_end _ (left l.below) (left c.next.new.self) first.answer first.after _ _ end.answer (same ∙ end.after)) c.hand-in_default.ensures.answer c.hand-in_default.ensures.unclosed in
     record { answer = k.answer; after = k.after }
 
 pub returns-then-second-ne10 : goal.returns-then-second-ne10
@@ -40,7 +40,7 @@ returns-then-second-ne10 g c =
     let second = c.in-Byte-next.ensures in
     let hand = c.hand-then-second-ne10 in
     let same = ap left hand.ensures.below in
-    let k = handed l.unclosed hand.new.self.unclosed _ (left l.below) (left hand.new.self.below) _ _ c.loop-first.invariant (then-other _ (left l.below) (left c.next.new.self) first.answer first.after _ (left c.next-in-loop-first.new.self) second.answer second.after _ c.if-second-ne10.true (same ∙ c.put-back.ensures)) hand.ensures.answer hand.ensures.unclosed in
+    let k = handed l.unclosed hand.new.self.unclosed _ (left l.below) (left hand.new.self.below) _ _ c.loop-first.invariant (then-other _ (left l.below) (left c.next.new.self) first.answer first.after _ (left c.next-in-loop-first.new.self) second.answer second.after _ c.if-second-ne10.true (same ∙ c.put_back.ensures)) hand.ensures.answer hand.ensures.unclosed in
     record { answer = k.answer; after = k.after }
 
 pub loop-first-preserved : goal.loop-first-preserved

@@ -18,8 +18,8 @@ returns-then-first-eq63 g c =
     let first = c.in-Byte.ensures in
     let same = put_one first.answer first.after in
     record {
-      answer = c.take-behind.ensures.answer ∙ ap (λ s. head (trigraphs s)) same;
-      after = c.take-behind.ensures.after ∙ ap (λ s. tail (trigraphs s)) same;
+      answer = c.take_behind.ensures.answer ∙ ap (λ s. head (trigraphs s)) same;
+      after = c.take_behind.ensures.after ∙ ap (λ s. tail (trigraphs s)) same;
     }
 
 pub returns-else-first-eq63 : goal.returns-else-first-eq63
