@@ -2,10 +2,10 @@ use Rattle.std.proofs.Common.{sym, arith}
 use Rattle.lexer.proofs.Lengths.{literal_bound}
 use Rattle.lexer.proofs.scan.literal.Goals as goal
 
-pub overflow-add-result : goal.overflow-add-result
-overflow-add-result c =
+pub overflow_add-result : goal.overflow_add-result
+overflow_add-result c =
     omega (arith, c.requires, c.in-Some.len-is, (literal_bound _ _ c.args.bytes.now _ (sym c.in-Some.ensures)).1)
 
-pub overflow-add-result-in-Some-2 : goal.overflow-add-result-in-Some-2
-overflow-add-result-in-Some-2 c =
+pub overflow_add-result-in-Some-2 : goal.overflow_add-result-in-Some-2
+overflow_add-result-in-Some-2 c =
     omega (arith, c.requires, c.in-Some-2.len-is, (literal_bound _ _ c.args.bytes.now _ (sym c.in-Some-2.ensures)).1)

@@ -6,11 +6,11 @@ use Rattle.lexer.proofs.scan.name_length.Goals as goal
 
 pub loop-len-preserved : goal.loop-len-preserved
 loop-len-preserved c =
-    omega (arith, c.loop-len.invariant, name_more c.args.bytes.now c.loop-len.len c.loop-len-test.true (sym c.if-is-name-byte.ensures))
+    omega (arith, c.loop-len.invariant, name_more c.args.bytes.now c.loop-len.len c.loop-len-test.true (sym c.if-is_name_byte.ensures))
 
-pub returns-else-is-name-byte : goal.returns-else-is-name-byte
-returns-else-is-name-byte c =
-    omega (arith, c.loop-len.invariant, name_stops c.args.bytes.now c.loop-len.len c.loop-len-test.true (sym c.if-is-name-byte.ensures))
+pub returns-else-is_name_byte : goal.returns-else-is_name_byte
+returns-else-is_name_byte c =
+    omega (arith, c.loop-len.invariant, name_stops c.args.bytes.now c.loop-len.len c.loop-len-test.true (sym c.if-is_name_byte.ensures))
 
 pub returns-after-loop-len : goal.returns-after-loop-len
 returns-after-loop-len c =

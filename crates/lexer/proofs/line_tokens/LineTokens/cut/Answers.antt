@@ -29,4 +29,4 @@ returns-in-Err c =
 
 pub returns : goal.returns
 returns c =
-    record { tokens = line_is (goal.at.returns c).After-lines ∙ c.in-default.ensures; lexical = lexical }
+    record { tokens = line_is (goal.at.returns c).After-lines ∙ c.in_default.ensures; lexical = lexical }
