@@ -8,4 +8,4 @@ returns-then-same c =
     sym (c.loop-token.invariant ∙ plain_first (view_tokens c.loop-token.rest) _ _ c.in-Some.ensures c.if-same.ensures)
 
 pub returns : goal.returns
-returns c = sym (c.loop-token.invariant ∙ plain_none (view_tokens c.loop-token.rest) c.in-default.ensures)
+returns c = sym (c.loop-token.invariant ∙ plain_none (view_tokens c.loop-token.rest) c.in_default.ensures)

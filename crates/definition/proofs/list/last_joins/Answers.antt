@@ -6,7 +6,7 @@ use Rattle.definition.proofs.list.last_joins.Goals as goal
 
 pub returns-then-len-gt0 : goal.returns-then-len-gt0
 returns-then-len-gt0 c =
-    c.first-joins.ensures ∙ sym (last_joins_lem (view_tokens c.args.list) (view_tokens c.behind.result) c.len-len.result c.len-len.ensures (omega arith) c.behind.ensures)
+    c.first_joins.ensures ∙ sym (last_joins_lem (view_tokens c.args.list) (view_tokens c.behind.result) c.len-len.result c.len-len.ensures (omega arith) c.behind.ensures)
 
 pub returns-else-len-gt0 : goal.returns-else-len-gt0
 returns-else-len-gt0 c =

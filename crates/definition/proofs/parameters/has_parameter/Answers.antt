@@ -5,4 +5,4 @@ use Rattle.definition.proofs.parameters.has_parameter.Goals as goal
 
 pub loop-token-preserved : goal.loop-token-preserved
 loop-token-preserved c =
-    c.loop-token.invariant ∙ member_more c.args.word.now (view_tokens c.loop-token.rest) (view_tokens c.behind-rest.result) _ c.in-Some.ensures c.if-is-called.ensures c.behind-rest.ensures
+    c.loop-token.invariant ∙ member_more c.args.word.now (view_tokens c.loop-token.rest) (view_tokens c.behind-rest.result) _ c.in-Some.ensures c.if-is_called.ensures c.behind-rest.ensures
