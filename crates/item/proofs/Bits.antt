@@ -1,6 +1,6 @@
 -- The bits of numbers. Assumes nothing.
 use Rattle.std.proofs.Common.{◌≡◌, ℕ, ◌-◌, ◌*◌, ◌/◌, ◌%◌, ◌^◌, ◌<◌, ◌≤◌, min, max, Bool, true, false, cond, ◌&&◌, ◌||◌, eqb, sym, ap, ◌∙◌, ⊎_elim, le_refl, lt_of_lt_of_le, one-mul, arith, lit<, pow_mono}
-use mathlib.Core.Bool.{and-true, and_false}
+use mathlib.Core.Bool.{and-true, and-false}
 use native.Mathlib.Nat.{div-eq_of_lt}
 use lib.Bits.{bit_and, bit_or, and_step, or_step}
 use Rattle.std.proofs.lemmas.Nat.{and_shr, or_shr, pow-add, pow_below, shl-shr}
@@ -21,8 +21,8 @@ lowest_or m n =
 pub bit-and : (m n k : ℕ) → bit (bit_and m n) k ≡ (bit m k && bit n k)
 bit-and m n k = ap (λ x. eqb (x % 2) 1) (and_shr m n k) ∙ lowest_and (m / 2 ^ k) (n / 2 ^ k)
 
-pub bit_or : (m n k : ℕ) → bit (bit_or m n) k ≡ (bit m k || bit n k)
-bit_or m n k = ap (λ x. eqb (x % 2) 1) (or_shr m n k) ∙ lowest_or (m / 2 ^ k) (n / 2 ^ k)
+pub bit-or : (m n k : ℕ) → bit (bit_or m n) k ≡ (bit m k || bit n k)
+bit-or m n k = ap (λ x. eqb (x % 2) 1) (or_shr m n k) ∙ lowest_or (m / 2 ^ k) (n / 2 ^ k)
 
 -- a number has no bit from its width on
 pub bit_past : (n w k : ℕ) → n < 2 ^ w → w ≤ k → bit n k ≡ false
@@ -46,4 +46,4 @@ bit_single s k =
 -- the number with one bit, or none
 pub bit_single_if : (b : Bool) (s k : ℕ) → bit (cond b (2 ^ s) 0) k ≡ (eqb k s && b)
 bit_single_if true s k = bit_single s k ∙ sym (and-true (eqb k s))
-bit_single_if false s k = bit_past 0 0 k (lit< tt) (omega arith) ∙ sym (and_false (eqb k s))
+bit_single_if false s k = bit_past 0 0 k (lit< tt) (omega arith) ∙ sym (and-false (eqb k s))

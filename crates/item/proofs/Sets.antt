@@ -5,7 +5,7 @@ use lib.Bits.{bit_and, bit_or}
 use Rattle.std.proofs.lemmas.Bool.Decides.{nat_tests}
 use Rattle.item.specs.declared.hide_set.HideSet.{HideSet}
 use Rattle.item.specs.Sets.{bit, in_set}
-use Rattle.item.proofs.Bits.{bit-and, bit_or, bit_single_if}
+use Rattle.item.proofs.Bits.{bit-and, bit-or, bit_single_if}
 
 cond_and : (b x y u v : Bool) → cond b (x && y) (u && v) ≡ (cond b x u && cond b y v)
 cond_and true x y u v = refl
@@ -23,12 +23,12 @@ in_both r a b low high k =
 -- the bits of either set
 pub in_either : (r a b : HideSet) → r.low ≡ bit_or a.low b.low → r.high ≡ bit_or a.high b.high → (k : ℕ) → in_set r k ≡ (in_set a k || in_set b k)
 in_either r a b low high k =
-    (λ i. cond (ltb k 128) ((ap (λ n. bit n k) low ∙ bit_or a.low b.low k) i) ((ap (λ n. bit n (k - 128)) high ∙ bit_or a.high b.high (k - 128)) i)) ∙ cond_or (ltb k 128) _ _ _ _
+    (λ i. cond (ltb k 128) ((ap (λ n. bit n k) low ∙ bit-or a.low b.low k) i) ((ap (λ n. bit n (k - 128)) high ∙ bit-or a.high b.high (k - 128)) i)) ∙ cond_or (ltb k 128) _ _ _ _
 
 -- one bit more
 bit_more : (m s k n one : ℕ) → n ≡ bit_or m one → one ≡ cond (ltb s 128) (2 ^ s) 0 → bit n k ≡ ((eqb k s && ltb s 128) || bit m k)
 bit_more m s k n one e f =
-    ap (λ x. bit x k) e ∙ bit_or m one k ∙ or_comm (bit m k) (bit one k) ∙ ap (λ b. b || bit m k) (ap (λ x. bit x k) f ∙ bit_single_if (ltb s 128) s k)
+    ap (λ x. bit x k) e ∙ bit-or m one k ∙ or_comm (bit m k) (bit one k) ∙ ap (λ b. b || bit m k) (ap (λ x. bit x k) f ∙ bit_single_if (ltb s 128) s k)
 
 low_more : (k s : ℕ) (x y : Bool) → s < 128 → cond (ltb k 128) ((eqb k s && ltb s 128) || x) y ≡ ((eqb k s && ltb s 256) || cond (ltb k 128) x y)
 low_more k s x y h = grind (arith, nat_tests)

@@ -14,16 +14,21 @@ returns-then-not-push g c =
       tokens = ap (λ ts. beside ts (vec_items c.args.self.now.tags)) was.tokens;
     }
 
-pub invariant-of-self-2 : goal.invariant-of-self-2
-invariant-of-self-2 g c =
+pub invariant_of-self-2 : goal.invariant_of-self-2
+invariant_of-self-2 g c =
     let was = c.if-not-push.ensures in
     let count = ap length was.tokens ∙ length_push (table_tokens c.args.self.now.tokens) (referred_to c.args.item).token in
-    (omega arith, (omega arith, (omega arith, (omega arith, tt))))
+    record {
+      even = omega arith;
+      room = omega arith;
+      most_tokens = omega arith;
+      most_bytes = omega arith;
+    }
 
 pub returns : goal.returns
 returns g c =
     let was = c.if-not-push.ensures in
     record {
       room = was.room ∙ room c.args.self.now (referred_to c.args.item);
-      tokens = held-push c.args.self.now (referred_to c.args.item) _ _ was.tokens c.push-reserved.ensures.items;
+      tokens = held-push c.args.self.now (referred_to c.args.item) _ _ was.tokens c.push_reserved.ensures.items;
     }
