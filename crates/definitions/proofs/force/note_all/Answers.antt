@@ -6,7 +6,7 @@ use Rattle.definitions.specs.Stores.{store_macros}
 use Rattle.definitions.proofs.Hinting.{noted_more}
 use Rattle.definitions.proofs.Lists.{take_none}
 use Rattle.definitions.proofs.force.note_all.Goals as goal
-use Rattle.definitions.proofs.force.note_all.Goals.{in-Some, in-default}
+use Rattle.definitions.proofs.force.note_all.Goals.{in-Some, in_default}
 
 pub loop-slot-preserved : goal.loop-slot-preserved
 loop-slot-preserved c =
@@ -14,7 +14,7 @@ loop-slot-preserved c =
     let i = c.loop-slot.slot in
     elim c.match-get.branch [
       | in-Some w ↦ ap (λ h. hinted h.cells (map (λ m. m.name) (take (i + 1) ms))) w.hints-is ∙ noted_more c.loop-slot.hints.cells w.put.new.self.cells w.in-Some.stored.name.now i w.put.ensures.here w.put.ensures.others ms i (stored_macro w.in-Some.stored) w.in-Some.ensures refl c.loop-slot.invariant
-      | in-default w ↦ ap (λ h. hinted h.cells (map (λ m. m.name) (take (i + 1) ms))) w.hints-is ∙ ap (λ l. hinted c.loop-slot.hints.cells (map (λ m. m.name) l)) (take_none ms i w.in-default.ensures) ∙ c.loop-slot.invariant
+      | in_default w ↦ ap (λ h. hinted h.cells (map (λ m. m.name) (take (i + 1) ms))) w.hints-is ∙ ap (λ l. hinted c.loop-slot.hints.cells (map (λ m. m.name) l)) (take_none ms i w.in_default.ensures) ∙ c.loop-slot.invariant
     ]
 
 pub returns : goal.returns

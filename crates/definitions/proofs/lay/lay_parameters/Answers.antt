@@ -7,17 +7,17 @@ use Rattle.definitions.specs.Layout.{parameter_tokens}
 use Rattle.definitions.proofs.Laying.{counted}
 use Rattle.definitions.proofs.lay.lay_parameters.Goals as goal
 
-more : (c : goal.After-len) → c.len.result ≡ c.len-before.result + length (words (view_tokens c.in-ok-inside.inside))
+more : (c : goal.After-len) → c.len.result ≡ c.len-before.result + length (words (view_tokens c.in_ok-inside.inside))
 more c =
-    counted (table_tokens c.args.table.now) (table_tokens c.lay-words.new.table) _ _ (words (view_tokens c.in-ok-inside.inside)) _ _ c.len-before.ensures c.tokens.ensures c.len.ensures c.tokens-2.ensures c.lay-words.ensures.tokens
+    counted (table_tokens c.args.table.now) (table_tokens c.lay_words.new.table) _ _ (words (view_tokens c.in_ok-inside.inside)) _ _ c.len-before.ensures c.tokens.ensures c.len.ensures c.tokens-2.ensures c.lay_words.ensures.tokens
 
-pub overflow-sub-result : goal.overflow-sub-result
-overflow-sub-result c = omega (arith, more c)
+pub overflow_sub-result : goal.overflow_sub-result
+overflow_sub-result c = omega (arith, more c)
 
 pub returns : goal.returns
 returns c =
     record {
-      count = ap Some (omega (arith, more c)) ∙ ap (option_map length) c.in-ok-inside.ensures;
-      tokens = c.lay-words.ensures.tokens ∙ ap (λ o. table_tokens c.args.table.now ++ parameter_tokens o) c.in-ok-inside.ensures;
-      limits = c.lay-words.ensures.limits;
+      count = ap Some (omega (arith, more c)) ∙ ap (option_map length) c.in_ok-inside.ensures;
+      tokens = c.lay_words.ensures.tokens ∙ ap (λ o. table_tokens c.args.table.now ++ parameter_tokens o) c.in_ok-inside.ensures;
+      limits = c.lay_words.ensures.limits;
     }

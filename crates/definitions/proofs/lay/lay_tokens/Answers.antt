@@ -11,6 +11,6 @@ loop-token-preserved c =
 pub returns : goal.returns
 returns c =
     record {
-      tokens = sofar_end c.args.table.now (view_tokens c.args.tokens) c.loop-token.table (view_tokens c.loop-token.rest) (first_none _ c.in-default.ensures) c.loop-token.invariant;
+      tokens = sofar_end c.args.table.now (view_tokens c.args.tokens) c.loop-token.table (view_tokens c.loop-token.rest) (first_none _ c.in_default.ensures) c.loop-token.invariant;
       limits = c.loop-token.invariant.1;
     }

@@ -5,14 +5,14 @@ use Rattle.definitions.specs.InForce.{parameters_size}
 use Rattle.definitions.proofs.Rooms.{left_sums, left_sums_first, left_sums_second}
 use Rattle.definitions.proofs.sizes.room_behind_definition.Goals as goal
 
-pub returns-in-err-named : goal.returns-in-err-named
-returns-in-err-named c =
-    c.from-residual.ensures ∙ sym (left_sums_first c.args.room (length c.args.definition.name.now) (parameters_size (parameter_names c.args.definition.parameters)) (spelled (view_tokens c.args.definition.list)) (sym c.room-behind.ensures ∙ c.in-err-named.was))
+pub returns-in_err-named : goal.returns-in_err-named
+returns-in_err-named c =
+    c.from_residual.ensures ∙ sym (left_sums_first c.args.room (length c.args.definition.name.now) (parameters_size (parameter_names c.args.definition.parameters)) (spelled (view_tokens c.args.definition.list)) (sym c.room_behind.ensures ∙ c.in_err-named.was))
 
-pub returns-in-err-left : goal.returns-in-err-left
-returns-in-err-left c =
-    c.from-residual-in-err-left.ensures ∙ sym (left_sums_second c.args.room (length c.args.definition.name.now) (parameters_size (parameter_names c.args.definition.parameters)) (spelled (view_tokens c.args.definition.list)) _ (sym c.room-behind.ensures ∙ c.in-ok-named.was) (sym c.room-behind-parameters.ensures ∙ c.in-err-left.was))
+pub returns-in_err-left : goal.returns-in_err-left
+returns-in_err-left c =
+    c.from_residual-in_err-left.ensures ∙ sym (left_sums_second c.args.room (length c.args.definition.name.now) (parameters_size (parameter_names c.args.definition.parameters)) (spelled (view_tokens c.args.definition.list)) _ (sym c.room_behind.ensures ∙ c.in_ok-named.was) (sym c.room_behind_parameters.ensures ∙ c.in_err-left.was))
 
 pub returns : goal.returns
 returns c =
-    c.room-behind-list.ensures ∙ sym (left_sums c.args.room (length c.args.definition.name.now) (parameters_size (parameter_names c.args.definition.parameters)) (spelled (view_tokens c.args.definition.list)) _ _ (sym c.room-behind.ensures ∙ c.in-ok-named.was) (sym c.room-behind-parameters.ensures ∙ c.in-ok-left.was))
+    c.room_behind_list.ensures ∙ sym (left_sums c.args.room (length c.args.definition.name.now) (parameters_size (parameter_names c.args.definition.parameters)) (spelled (view_tokens c.args.definition.list)) _ _ (sym c.room_behind.ensures ∙ c.in_ok-named.was) (sym c.room_behind_parameters.ensures ∙ c.in_ok-left.was))

@@ -5,9 +5,12 @@ use Rattle.definitions.specs.Stores.{store_macros}
 use Rattle.definitions.proofs.Hinting.{unlike_push, noted_push}
 use Rattle.definitions.proofs.definitions.Definitions.add.Goals as goal
 
-pub invariant-of-self-2 : goal.invariant-of-self-2
-invariant-of-self-2 c =
+pub invariant_of-self-2 : goal.invariant_of-self-2
+invariant_of-self-2 c =
     let d = c.args.self.now in
     let os = store_macros c.append.new.self in
     let m = macro_of c.args.definition in
-    (unlike_push (in_force d) os m c.append.ensures d.unlike c.requires, (noted_push d.hints.cells c.put.new.self.cells c.args.definition.name.now c.len.result c.put.ensures.here c.put.ensures.others (in_force d) os m c.append.ensures refl d.noted, tt))
+    record {
+      unlike = unlike_push (in_force d) os m c.append.ensures d.unlike c.requires;
+      noted = noted_push d.hints.cells c.put.new.self.cells c.args.definition.name.now c.len.result c.put.ensures.here c.put.ensures.others (in_force d) os m c.append.ensures refl d.noted;
+    }

@@ -10,7 +10,7 @@ use Rattle.definitions.proofs.store.Store.is_named.Goals as goal
 pub returns-in-Some : goal.returns-in-Some
 returns-in-Some c =
     let f = macro_at (table_tokens c.args.self.now.tokens) in
-    c.is-named.ensures ∙ ap (λ ts. bytes_eq c.args.name.now (macro_at ts c.in-Some.entry).name) c.tokens.ensures ∙ ap (λ o. is_named c.args.name.now (option_map f o)) c.in-Some.ensures ∙ ap (is_named c.args.name.now) (sym (nth-map f (vec_items c.args.self.now.entries) c.args.slot))
+    c.is_named.ensures ∙ ap (λ ts. bytes_eq c.args.name.now (macro_at ts c.in-Some.entry).name) c.tokens.ensures ∙ ap (λ o. is_named c.args.name.now (option_map f o)) c.in-Some.ensures ∙ ap (is_named c.args.name.now) (sym (nth-map f (vec_items c.args.self.now.entries) c.args.slot))
 
 pub returns-in-None : goal.returns-in-None
 returns-in-None c =

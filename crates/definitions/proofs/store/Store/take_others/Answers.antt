@@ -4,8 +4,8 @@ use Rattle.definitions.specs.InForce.{fit}
 use Rattle.definitions.proofs.Stored.{store_fits}
 use Rattle.definitions.proofs.store.Store.take_others.Goals as goal
 
-pub copy-others-requires : goal.copy-others-requires
-copy-others-requires c =
+pub copy_others-requires : goal.copy_others-requires
+copy_others-requires c =
     record {
       empty = c.clear.ensures;
       dense = (λ i. placed 0 (c.deref.ensures.value i) (length (c.tokens.ensures i))) ∙ c.args.from.now.dense;
