@@ -3,7 +3,7 @@ use Rattle.std.proofs.Common.{◌≡◌, ℕ, ◌+◌, ◌-◌, Bool, true, fals
 use mathlib.Core.List.{map-append}
 use lib.ListN.{length-map}
 use Rattle.std.specs.List.{slice_get}
-use Rattle.std.proofs.lemmas.Bool.{cond-true, cond-false, not-true, not_false}
+use Rattle.std.proofs.lemmas.Bool.{cond-true, cond-false, not-true, not-false}
 use Rattle.std.proofs.lemmas.Bool.Decides.{nat_tests}
 use Rattle.text.specs.declared.Fault.{Fault}
 use Rattle.text.specs.declared.FaultKind.TheVariants.{BadLiteral, ManyTokens}
@@ -135,7 +135,7 @@ module _ (line : ℕ) (xs ys : List (Tagged Role)) (r : Bool) (gives : List Macr
 
   refusing : r ≡ false → (ms : List Macro) (left : ℕ) (f : Fault) → f ≡ record { kind = ManyTokens; line = line } → (limited_pieces line (giving (pieces_of ms xs) left then (λ n. gives ms n))).ending ≡ end_of (Fails f)
   refusing t ms left f e =
-      ap (λ o. (limited_pieces line o).ending) (both ms left) ∙ ap (λ o. o.ending) (cond-true _ (failing 64 line left) (giving (pieces_of ms (xs ++ a.more)) left) (not_false _ (sym (fit-over ms (xs ++ a.more) sizes) ∙ sym a.room ∙ t))) ∙ sym (ap (λ g. end_of (Fails g)) e)
+      ap (λ o. (limited_pieces line o).ending) (both ms left) ∙ ap (λ o. o.ending) (cond-true _ (failing 64 line left) (giving (pieces_of ms (xs ++ a.more)) left) (not-false _ (sym (fit-over ms (xs ++ a.more) sizes) ∙ sym a.room ∙ t))) ∙ sym (ap (λ g. end_of (Fails g)) e)
 
   abbrev pub Within : {S : Type 0} → Result S Fault → Type 0
   Within o = MatchResult o (λ _. r ≡ true) (λ f. (r ≡ false) × (f ≡ record { kind = ManyTokens; line = line }))

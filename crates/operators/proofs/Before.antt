@@ -4,7 +4,7 @@ use lib.ListN.{length-map}
 use Rattle.std.specs.List.{slice_get}
 use Rattle.std.specs.Option.{option_map}
 use Rattle.std.proofs.lemmas.List.{drop_all, length-reverse, reverse-append}
-use Rattle.std.proofs.lemmas.Bool.{cond-false, cond-true, lt-ltb, ltb-true, ne_eqb, not_false, or_cases, or_left, or_right}
+use Rattle.std.proofs.lemmas.Bool.{cond-false, cond-true, lt-ltb, ltb-true, ne_eqb, not-false, or_cases, or_left, or_right}
 use Rattle.std.proofs.lemmas.Bool.Decides.{nat_tests}
 use Rattle.item.proofs.Beside.{bytes-append, nth_beyond}
 use Rattle.item.specs.declared.hide_set.HideSet.{HideSet}
@@ -89,5 +89,5 @@ module _ (ms : List Macro) (ts : List (Tagged HideSet)) (hides : HideSet) (m : B
       refused r e f =
           let is = result m (hidden ms hides) (items_of ms ts) in
           let no : not (over (drop (k - 1) is ++ w)) ≡ false = ap (λ v. not (over v)) (sym put_one) ∙ sym (fit-over ms (ws ++ n ∷ [])) ∙ sym e ∙ f in
-          let yes = over_more (take (k - 1) is) (drop (k - 1) is ++ w) (not_false _ no) in
+          let yes = over_more (take (k - 1) is) (drop (k - 1) is ++ w) (not-false _ no) in
           ap not (sym yes) ∙ ap (λ v. not (over v)) (sym (append_assoc (take (k - 1) is) (drop (k - 1) is) w) ∙ ap (λ v. v ++ w) (take-append-drop (k - 1) is))

@@ -1,7 +1,7 @@
 pub mod Added
 pub mod Before
 pub mod Ended
-pub mod Hidden
+pub mod HiddenNames
 pub mod Joined
 pub mod Listed
 pub mod Placed

@@ -15,7 +15,7 @@ use Rattle.operators.specs.declared.Role.TheVariants.{Plain, Join, Nothing}
 use Rattle.operators.specs.Ends.{going_on, joined_end}
 use Rattle.operators.specs.Pieces.{in_role, piece_of, pieces_of, as_operand, operand_of, is_join}
 use Rattle.operators.proofs.Ended.{at_end_lem, at_piece, at_nothing, at_joiner, at_fault}
-use Rattle.operators.proofs.Hidden.{operand-size}
+use Rattle.operators.proofs.HiddenNames.{operand-size}
 use Rattle.operators.proofs.Listed.{drop_nth, drop_none}
 use Rattle.operators.proofs.Sized.{items_length, items_bytes, item_bytes-append, end_size}
 

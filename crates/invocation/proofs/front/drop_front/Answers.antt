@@ -6,16 +6,16 @@ use Rattle.std.proofs.lemmas.Bool.{ltb-true, ltb-false}
 use Rattle.invocation.proofs.Waiting.{dropped_waiting, dropped_run}
 use Rattle.invocation.proofs.front.drop_front.Goals as goal
 
-pub returns-then-is-waiting : goal.returns-then-is-waiting
-returns-then-is-waiting g c =
+pub returns-then-is_waiting : goal.returns-then-is_waiting
+returns-then-is_waiting g c =
     record {
-      dropped = dropped_waiting (held c.args.w.now) _ _ (ltb-true 0 _ (sym c.if-is-waiting.ensures)) c.pop.ensures;
+      dropped = dropped_waiting (held c.args.w.now) _ _ (ltb-true 0 _ (sym c.if-is_waiting.ensures)) c.pop.ensures;
       same = refl;
     }
 
-pub returns-else-is-waiting : goal.returns-else-is-waiting
-returns-else-is-waiting g c =
-    let none = nil_from_length (held c.args.w.now) (omega (arith, ltb-false 0 _ (sym c.if-is-waiting.ensures))) in
+pub returns-else-is_waiting : goal.returns-else-is_waiting
+returns-else-is_waiting g c =
+    let none = nil_from_length (held c.args.w.now) (omega (arith, ltb-false 0 _ (sym c.if-is_waiting.ensures))) in
     record {
       dropped = dropped_run (waiting c.args.w.now) _ _ (ap reverse none) (c.advance.ensures.behind c.fill.ensures.fetched ∙ ap (drop 1) c.fill.ensures.same.0);
       same = c.advance.ensures.same ∙ c.fill.ensures.same.1;

@@ -31,7 +31,7 @@ returns-in-Some g c =
 pub returns-then-not-push-2 : goal.returns-then-not-push-2
 returns-then-not-push-2 g c =
     let first = c.in-Some-first.ensures ∙ c.fill.ensures.fetched ∙ ap (λ xs. slice_get xs 0) c.fill.ensures.same.0 in
-    let front = take_first _ _ (first ∙ nth_second (waiting c.args.w.now) _ c.in-default.ensures) in
+    let front = take_first _ _ (first ∙ nth_second (waiting c.args.w.now) _ c.in_default.ensures) in
     record {
       room = c.if-not-push-2.ensures.room ∙ ap (λ xs. fit (held c.args.to.now ++ xs)) front;
       moved = c.if-not-push-2.ensures.tokens;
@@ -42,23 +42,23 @@ returns-then-not-push-2 g c =
 pub returns-else-not-push-2 : goal.returns-else-not-push-2
 returns-else-not-push-2 g c =
     let first = c.in-Some-first.ensures ∙ c.fill.ensures.fetched ∙ ap (λ xs. slice_get xs 0) c.fill.ensures.same.0 in
-    let front = take_first _ _ (first ∙ nth_second (waiting c.args.w.now) _ c.in-default.ensures) in
+    let front = take_first _ _ (first ∙ nth_second (waiting c.args.w.now) _ c.in_default.ensures) in
     record {
       room = c.if-not-push-2.ensures.room ∙ ap (λ xs. fit (held c.args.to.now ++ xs)) front;
       moved = c.if-not-push-2.ensures.tokens ∙ ap (λ xs. held c.args.to.now ++ xs) front;
-      dropped = dropped_run (waiting c.args.w.now) _ _ (none_first _ c.in-default.ensures) (c.advance.ensures.behind c.fill.ensures.fetched ∙ ap (drop 1) c.fill.ensures.same.0);
+      dropped = dropped_run (waiting c.args.w.now) _ _ (none_first _ c.in_default.ensures) (c.advance.ensures.behind c.fill.ensures.fetched ∙ ap (drop 1) c.fill.ensures.same.0);
       same = c.advance.ensures.same ∙ c.fill.ensures.same.1;
     }
 
-pub returns-in-default-first : goal.returns-in-default-first
-returns-in-default-first g c =
+pub returns-in_default-first : goal.returns-in_default-first
+returns-in_default-first g c =
     let to = held c.args.to.now in
-    let first = c.in-default-first.ensures ∙ c.fill.ensures.fetched ∙ ap (λ xs. slice_get xs 0) c.fill.ensures.same.0 in
-    let none = none_first (waiting c.args.w.now ++ g.R.Run.rest c.args.run.now) (first ∙ nth_second (waiting c.args.w.now) _ c.in-default.ensures) in
+    let first = c.in_default-first.ensures ∙ c.fill.ensures.fetched ∙ ap (λ xs. slice_get xs 0) c.fill.ensures.same.0 in
+    let none = none_first (waiting c.args.w.now ++ g.R.Run.rest c.args.run.now) (first ∙ nth_second (waiting c.args.w.now) _ c.in_default.ensures) in
     let all = sym (append-nil to) ∙ ap (λ xs. to ++ take 1 xs) (sym none) in
     record {
       room = sym (fits c.args.to.now) ∙ ap fit all;
       moved = all;
-      dropped = dropped_end (waiting c.args.w.now) _ _ (none_first _ c.in-default.ensures) (none_first _ first) c.fill.ensures.same.0;
+      dropped = dropped_end (waiting c.args.w.now) _ _ (none_first _ c.in_default.ensures) (none_first _ first) c.fill.ensures.same.0;
       same = c.fill.ensures.same.1;
     }

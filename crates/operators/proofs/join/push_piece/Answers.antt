@@ -1,5 +1,5 @@
 use Rattle.item.specs.Tables.{held, referred_to}
-use Rattle.operators.proofs.Hidden.{goes_in, piece_pushed}
+use Rattle.operators.proofs.HiddenNames.{goes_in, piece_pushed}
 use Rattle.operators.proofs.join.push_piece.Goals as goal
 
 pub returns-in-Some : goal.returns-in-Some

@@ -22,4 +22,4 @@ returns-then-not-add-2 c =
 pub returns : goal.returns
 returns c =
     let whole = added_both (spelt c.clear.new.self) c.args.left.now c.args.right.now c.clear.ensures _ _ _ _ c.add.ensures.added c.if-not-add.false c.add-2.ensures.added c.if-not-add-2.false in
-    record { kind = c.one-token.ensures ∙ ap one_token (c.bytes.ensures ∙ whole); spelt = λ e. whole }
+    record { kind = c.one_token.ensures ∙ ap one_token (c.bytes.ensures ∙ whole); spelt = λ e. whole }

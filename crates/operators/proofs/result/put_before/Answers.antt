@@ -18,18 +18,18 @@ pub returns-then-not-push : goal.returns-then-not-push
 returns-then-not-push g c =
     let at = sets_at g.T.Hides.set (held c.args.tokens.now) _ (c.loop-index.index - 1) _ c.view-items.ensures c.in-Some.ensures in
     record {
-      room = λ ms. refused ms (with_sets g.T.Hides.set (held c.args.tokens.now)) c.args.hides c.args.marked (items_of ms (reverse (held c.args.w.now))) (held c.loop-index.w) c.loop-index.index (c.loop-index.invariant ms) c.loop-index-test.true _ at _ _ c.first-mark-mark.ensures (made_with ms c.args.hides _ (referred_to c.in-Some.item).token _ _ _ c.hides.ensures (c.hiding-too.ensures ms)) _ c.push.ensures.room c.if-not-push.true;
+      room = λ ms. refused ms (with_sets g.T.Hides.set (held c.args.tokens.now)) c.args.hides c.args.marked (items_of ms (reverse (held c.args.w.now))) (held c.loop-index.w) c.loop-index.index (c.loop-index.invariant ms) c.loop-index-test.true _ at _ _ c.first_mark-mark.ensures (made_with ms c.args.hides _ (referred_to c.in-Some.item).token _ _ _ c.hides.ensures (c.hiding_too.ensures ms)) _ c.push.ensures.room c.if-not-push.true;
       before = λ ms e. absurd (false≢true e);
     }
 
 pub loop-index-preserved-else-not-push : goal.loop-index-preserved-else-not-push
 loop-index-preserved-else-not-push g c ms =
     let at = sets_at g.T.Hides.set (held c.args.tokens.now) _ (c.loop-index.index - 1) _ c.view-items.ensures c.in-Some.ensures in
-    put ms (with_sets g.T.Hides.set (held c.args.tokens.now)) c.args.hides c.args.marked (items_of ms (reverse (held c.args.w.now))) (held c.loop-index.w) c.loop-index.index (c.loop-index.invariant ms) c.loop-index-test.true _ at _ _ c.first-mark-mark.ensures (made_with ms c.args.hides _ (referred_to c.in-Some.item).token _ _ _ c.hides.ensures (c.hiding-too.ensures ms)) _ _ c.push.ensures.tokens c.if-not-push.false
+    put ms (with_sets g.T.Hides.set (held c.args.tokens.now)) c.args.hides c.args.marked (items_of ms (reverse (held c.args.w.now))) (held c.loop-index.w) c.loop-index.index (c.loop-index.invariant ms) c.loop-index-test.true _ at _ _ c.first_mark-mark.ensures (made_with ms c.args.hides _ (referred_to c.in-Some.item).token _ _ _ c.hides.ensures (c.hiding_too.ensures ms)) _ _ c.push.ensures.tokens c.if-not-push.false
 
 pub loop-index-preserved : goal.loop-index-preserved
 loop-index-preserved g c ms =
-    let at = sets_at g.T.Hides.set (held c.args.tokens.now) _ (c.loop-index.index - 1) _ c.view-items.ensures c.in-default.ensures in
+    let at = sets_at g.T.Hides.set (held c.args.tokens.now) _ (c.loop-index.index - 1) _ c.view-items.ensures c.in_default.ensures in
     none_there ms (with_sets g.T.Hides.set (held c.args.tokens.now)) c.args.hides c.args.marked (items_of ms (reverse (held c.args.w.now))) (held c.loop-index.w) c.loop-index.index (c.loop-index.invariant ms) at
 
 pub returns : goal.returns

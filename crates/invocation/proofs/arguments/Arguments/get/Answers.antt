@@ -10,5 +10,5 @@ use Rattle.invocation.proofs.arguments.Arguments.get.Goals as goal
 pub returns : goal.returns
 returns c ms =
     let within = held c.args.self.now.inside in
-    let span = c.span-at-span in
-    ap (items_of ms) (c.part.ensures ∙ ap (λ xs. take span.result.len (drop span.result.start xs)) c.view.ensures) ∙ argument ms within c.as-slice.result.now c.args.index span.result span.ensures.within span.ensures.past ∙ ap (λ ss. operand_of (slice_get (map (part_of ms within) ss) c.args.index)) c.as-slice.ensures.value
+    let span = c.span_at-span in
+    ap (items_of ms) (c.part.ensures ∙ ap (λ xs. take span.result.len (drop span.result.start xs)) c.view.ensures) ∙ argument ms within c.as_slice.result.now c.args.index span.result span.ensures.within span.ensures.past ∙ ap (λ ss. operand_of (slice_get (map (part_of ms within) ss) c.args.index)) c.as_slice.ensures.value

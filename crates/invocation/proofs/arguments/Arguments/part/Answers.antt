@@ -14,8 +14,8 @@ returns-then-parameters-eq0 c =
       same = refl;
     }
 
-pub part-at-commas-requires : goal.part-at-commas-requires
-part-at-commas-requires c =
+pub part_at_commas-requires : goal.part_at_commas-requires
+part_at_commas-requires c =
     record {
       few = omega (arith, few c.args.self.now.inside, ap length c.view-inside.ensures);
       none = c.clear.ensures.items;
@@ -25,9 +25,9 @@ part-at-commas-requires c =
 pub returns : goal.returns
 returns c =
     let within = held c.args.self.now.inside in
-    let spans = c.part-at-commas.new.spans in
+    let spans = c.part_at_commas.new.spans in
     let size = c.len-2.ensures ∙ ap length c.view-inside.ensures in
     record {
-      parts = λ ms ps e v. some_parameters ms ps within (vec_items spans) _ size c.args.parameters _ _ _ e c.if-parameters-eq0.false v c.most-commas-most.ensures (c.len-3.ensures ∙ spans.ok.0) (subst (λ xs. map (part_of ms xs) (vec_items spans) ≡ parted c.most-commas-most.result 0 (items_of ms xs)) c.view-inside.ensures (c.part-at-commas.ensures.parts ms));
+      parts = λ ms ps e v. some_parameters ms ps within (vec_items spans) _ size c.args.parameters _ _ _ e c.if-parameters-eq0.false v c.most_commas-most.ensures (c.len-3.ensures ∙ spans.ok.0) (subst (λ xs. map (part_of ms xs) (vec_items spans) ≡ parted c.most_commas-most.result 0 (items_of ms xs)) c.view-inside.ensures (c.part_at_commas.ensures.parts ms));
       same = refl;
     }

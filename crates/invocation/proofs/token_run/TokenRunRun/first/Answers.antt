@@ -6,10 +6,10 @@ use Rattle.invocation.proofs.Lists.{nth-map}
 use Rattle.invocation.proofs.Runs.{first_unhidden}
 use Rattle.invocation.proofs.token_run.TokenRunRun.first.Goals as goal
 
-pub returns-in-err-token : goal.returns-in-err-token
-returns-in-err-token c =
-    ap (option_map referred_to) c.from-residual.ensures ∙ ap (option_map _) c.in-err-token.ensures ∙ sym (nth-map _ (view_tokens c.args.self.now.tokens) 0)
+pub returns-in_err-token : goal.returns-in_err-token
+returns-in_err-token c =
+    ap (option_map referred_to) c.from_residual.ensures ∙ ap (option_map _) c.in_err-token.ensures ∙ sym (nth-map _ (view_tokens c.args.self.now.tokens) 0)
 
 pub returns : goal.returns
 returns c =
-    first_unhidden (view_tokens c.args.self.now.tokens) _ _ c.in-ok-token.ensures c.empty.ensures.same
+    first_unhidden (view_tokens c.args.self.now.tokens) _ _ c.in_ok-token.ensures c.empty.ensures.same

@@ -3,9 +3,9 @@ use Rattle.std.proofs.lemmas.Bool.{cond-false}
 use Rattle.operators.specs.Spellings.{spelt}
 use Rattle.operators.proofs.spelling.Spelling.add.Goals as goal
 
-pub returns-else-has-room : goal.returns-else-has-room
-returns-else-has-room c =
+pub returns-else-has_room : goal.returns-else-has_room
+returns-else-has_room c =
     let s = c.args.self.now in
     let more = c.args.more.now in
     let size : vec_len s.bytes + length more ≡ length (spelt s ++ more) = omega (arith, s.bytes.ok.0, length-append (spelt s) more) in
-    record { room = c.has-room.ensures ∙ ap (λ n. leb n 1023) size; added = sym (cond-false _ _ _ c.if-has-room.false) }
+    record { room = c.has_room.ensures ∙ ap (λ n. leb n 1023) size; added = sym (cond-false _ _ _ c.if-has_room.false) }
