@@ -9,7 +9,7 @@ use Rattle.steps.proofs.class.front_class.Goals as goal
 pub returns-in-Some : goal.returns-in-Some
 returns-in-Some g c =
     record {
-      answer = c.class-of.ensures ∙ ap (class (macros c.args.context)) (nth-append (waiting c.args.w.now) (g.R.Run.rest c.args.run.now) _ c.in-Some.ensures);
+      answer = c.class_of.ensures ∙ ap (class (macros c.args.context)) (nth-append (waiting c.args.w.now) (g.R.Run.rest c.args.run.now) _ c.in-Some.ensures);
       same = (refl, refl);
     }
 
@@ -17,7 +17,7 @@ pub returns-in-Some-first : goal.returns-in-Some-first
 returns-in-Some-first g c =
     let first = c.in-Some-first.ensures ∙ c.fill.ensures.fetched ∙ ap (λ xs. slice_get xs 0) c.fill.ensures.same.0 in
     record {
-      answer = c.class-of-in-Some-first.ensures ∙ ap (class (macros c.args.context)) (first ∙ nth_second (waiting c.args.w.now) _ c.in-default.ensures);
+      answer = c.class_of-in-Some-first.ensures ∙ ap (class (macros c.args.context)) (first ∙ nth_second (waiting c.args.w.now) _ c.in_default.ensures);
       same = c.fill.ensures.same;
     }
 
@@ -25,6 +25,6 @@ pub returns-in-None : goal.returns-in-None
 returns-in-None g c =
     let first = c.in-None.ensures ∙ c.fill.ensures.fetched ∙ ap (λ xs. slice_get xs 0) c.fill.ensures.same.0 in
     record {
-      answer = ap (class (macros c.args.context)) (first ∙ nth_second (waiting c.args.w.now) _ c.in-default.ensures);
+      answer = ap (class (macros c.args.context)) (first ∙ nth_second (waiting c.args.w.now) _ c.in_default.ensures);
       same = c.fill.ensures.same;
     }

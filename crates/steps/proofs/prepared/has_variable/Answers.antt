@@ -7,4 +7,4 @@ use Rattle.steps.proofs.prepared.has_variable.Goals as goal
 
 pub returns : goal.returns
 returns c =
-    c.is-some.ensures ∙ ap is_some c.index-of.ensures ∙ some_member variable (spellings (view_tokens c.args.parameters))
+    c.is_some.ensures ∙ ap is_some c.index_of.ensures ∙ some_member variable (spellings (view_tokens c.args.parameters))

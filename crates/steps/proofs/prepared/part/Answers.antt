@@ -15,4 +15,4 @@ returns c =
     let ms = macros c.args.context in
     let is = items_of ms (inside c.args.arguments.now) in
     let words = spellings (view_tokens c.in-Some-parameters.parameters) in
-    ap (λ o. arguments_of o is) (sym c.in-Some.ensures) ∙ ap (λ o. elim (option_map (λ v. spellings (view_tokens v)) o) [ None ↦ None | Some ps ↦ arguments ps is ]) c.in-Some-parameters.is ∙ c.part.ensures.parts ms words (length-map _ _ ∙ sym c.len.ensures) (sym c.has-variable.ensures)
+    ap (λ o. arguments_of o is) (sym c.in-Some.ensures) ∙ ap (λ o. elim (option_map (λ v. spellings (view_tokens v)) o) [ None ↦ None | Some ps ↦ arguments ps is ]) c.in-Some-parameters.is ∙ c.part.ensures.parts ms words (length-map _ _ ∙ sym c.len.ensures) (sym c.has_variable.ensures)

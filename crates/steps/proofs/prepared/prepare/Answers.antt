@@ -35,8 +35,8 @@ returns-in-Plain g c =
     let first = c.in-Plain.ensures in
     let front = fronted ms file end (w ++ rest) _ first.answer in
     record {
-      step = prepared_plain ms file end (arguments_in ms c.args.arguments.now) c.args.left.now w rest (g.R.Run.rest c.front-class.new.run) first.same.0 front;
-      falls = falling_plain ms file end (arguments_in ms c.args.arguments.now) c.args.left.now w rest (g.R.Run.rest c.front-class.new.run) first.same.0 front;
+      step = prepared_plain ms file end (arguments_in ms c.args.arguments.now) c.args.left.now w rest (g.R.Run.rest c.front_class.new.run) first.same.0 front;
+      falls = falling_plain ms file end (arguments_in ms c.args.arguments.now) c.args.left.now w rest (g.R.Run.rest c.front_class.new.run) first.same.0 front;
       same = first.same.1;
     }
 
@@ -51,12 +51,12 @@ returns-in-BuiltIn g c =
     let first = c.in-BuiltIn.ensures in
     let front = fronted ms file end (w ++ rest) _ first.answer in
     let args = arguments_in ms c.args.arguments.now in
-    let dropped = dropped_from 1 w rest _ _ _ first.same.0 c.drop-front.ensures.dropped in
+    let dropped = dropped_from 1 w rest _ _ _ first.same.0 c.drop_front.ensures.dropped in
     let counted = c.counted.ensures in
     record {
       step = prepared_built_in ms file end args c.args.left.now w rest _ _ dropped c.in-BuiltIn.built_in c.in-BuiltIn.name front c.counted.new.left c.counted.result counted.answer counted.less;
       falls = falling_built_in ms file end args c.args.left.now w rest _ _ dropped c.in-BuiltIn.built_in c.in-BuiltIn.name front c.counted.new.left c.counted.result counted.answer counted.less;
-      same = c.drop-front.ensures.same ∙ first.same.1;
+      same = c.drop_front.ensures.same ∙ first.same.1;
     }
 
 pub returns-in-Object : goal.returns-in-Object
@@ -70,18 +70,18 @@ returns-in-Object g c =
     let first = c.in-Object.ensures in
     let front = fronted ms file end (w ++ rest) _ first.answer in
     let args = arguments_in ms c.args.arguments.now in
-    let dropped = dropped_from 1 w rest _ _ _ first.same.0 c.drop-front-in-Object.ensures.dropped in
+    let dropped = dropped_from 1 w rest _ _ _ first.same.0 c.drop_front-in-Object.ensures.dropped in
     let counted = c.counted-in-Object in
-    let call = c.call-of-call in
+    let call = c.call_of-call in
     let within = slot-within c.args.context.definitions.now.force front.x.token.spelling c.in-Object.slot front.named.slot in
     record {
       step = prepared_object ms file end args c.args.left.now w rest _ _ dropped c.in-Object.slot c.in-Object.name front call.result counted.new.left counted.result counted.ensures.answer counted.ensures.less within call.ensures.place call.ensures.hides;
       falls = falling_object ms file end args c.args.left.now w rest _ _ dropped c.in-Object.slot c.in-Object.name front call.result counted.new.left counted.result counted.ensures.answer counted.ensures.less;
-      same = c.drop-front-in-Object.ensures.same ∙ first.same.1;
+      same = c.drop_front-in-Object.ensures.same ∙ first.same.1;
     }
 
-pub returns-else-is-called : goal.returns-else-is-called
-returns-else-is-called g c =
+pub returns-else-is_called : goal.returns-else-is_called
+returns-else-is_called g c =
     let ms = macros c.args.context in
     let file = file_of c.args.context in
     let run = c.args.run.now in
@@ -91,18 +91,18 @@ returns-else-is-called g c =
     let first = c.in-Function.ensures in
     let front = fronted ms file end (w ++ rest) _ first.answer in
     let args = arguments_in ms c.args.arguments.now in
-    let behind = c.front-bracket.ensures in
-    let w₁ = waiting c.drop-front-in-Function.new.w in
-    let dropped = dropped_to 1 w rest w₁ _ _ behind.same.0 (dropped_from 1 w rest _ _ _ first.same.0 c.drop-front-in-Function.ensures.dropped) in
+    let behind = c.front_bracket.ensures in
+    let w₁ = waiting c.drop_front-in-Function.new.w in
+    let dropped = dropped_to 1 w rest w₁ _ _ behind.same.0 (dropped_from 1 w rest _ _ _ first.same.0 c.drop_front-in-Function.ensures.dropped) in
     let answer = behind.answer ∙ ap (λ r. bracket (slice_get (w₁ ++ r) 0)) (sym behind.same.0) in
     record {
-      step = prepared_name ms file end args c.args.left.now w rest w₁ _ dropped c.in-Function.slot c.in-Function.name front c.front-bracket.result answer c.if-is-called.ensures;
-      falls = falling_name ms file end args c.args.left.now w rest w₁ _ dropped c.in-Function.slot c.in-Function.name front c.front-bracket.result answer;
-      same = behind.same.1 ∙ c.drop-front-in-Function.ensures.same ∙ first.same.1;
+      step = prepared_name ms file end args c.args.left.now w rest w₁ _ dropped c.in-Function.slot c.in-Function.name front c.front_bracket.result answer c.if-is_called.ensures;
+      falls = falling_name ms file end args c.args.left.now w rest w₁ _ dropped c.in-Function.slot c.in-Function.name front c.front_bracket.result answer;
+      same = behind.same.1 ∙ c.drop_front-in-Function.ensures.same ∙ first.same.1;
     }
 
-pub returns-then-is-called : goal.returns-then-is-called
-returns-then-is-called g c =
+pub returns-then-is_called : goal.returns-then-is_called
+returns-then-is_called g c =
     let ms = macros c.args.context in
     let file = file_of c.args.context in
     let run = c.args.run.now in
@@ -111,15 +111,15 @@ returns-then-is-called g c =
     let w = waiting c.args.w.now in
     let first = c.in-Function.ensures in
     let front = fronted ms file end (w ++ rest) _ first.answer in
-    let call = c.prepare-call in
+    let call = c.prepare_call in
     let args = arguments_in ms call.new.arguments in
-    let behind = c.front-bracket.ensures in
-    let w₁ = waiting c.drop-front-in-Function.new.w in
-    let dropped = dropped_to 1 w rest w₁ _ _ behind.same.0 (dropped_from 1 w rest _ _ _ first.same.0 c.drop-front-in-Function.ensures.dropped) in
+    let behind = c.front_bracket.ensures in
+    let w₁ = waiting c.drop_front-in-Function.new.w in
+    let dropped = dropped_to 1 w rest w₁ _ _ behind.same.0 (dropped_from 1 w rest _ _ _ first.same.0 c.drop_front-in-Function.ensures.dropped) in
     let answer = behind.answer ∙ ap (λ r. bracket (slice_get (w₁ ++ r) 0)) (sym behind.same.0) in
-    let same = c.drop-front-then-is-called.ensures.same ∙ behind.same.1 ∙ c.drop-front-in-Function.ensures.same ∙ first.same.1 in
+    let same = c.drop_front-then-is_called.ensures.same ∙ behind.same.1 ∙ c.drop_front-in-Function.ensures.same ∙ first.same.1 in
     record {
-      step = prepared_call ms file end args c.args.left.now w rest w₁ _ dropped c.in-Function.slot c.in-Function.name front c.front-bracket.result answer _ _ c.drop-front-then-is-called.ensures.dropped _ call.result c.if-is-called.ensures _ (ap end_of same) call.ensures.step;
-      falls = falling_call ms file end args c.args.left.now w rest w₁ _ dropped c.in-Function.slot c.in-Function.name front c.front-bracket.result answer _ _ c.drop-front-then-is-called.ensures.dropped _ call.result call.ensures.falls;
+      step = prepared_call ms file end args c.args.left.now w rest w₁ _ dropped c.in-Function.slot c.in-Function.name front c.front_bracket.result answer _ _ c.drop_front-then-is_called.ensures.dropped _ call.result c.if-is_called.ensures _ (ap end_of same) call.ensures.step;
+      falls = falling_call ms file end args c.args.left.now w rest w₁ _ dropped c.in-Function.slot c.in-Function.name front c.front_bracket.result answer _ _ c.drop_front-then-is_called.ensures.dropped _ call.result call.ensures.falls;
       same = call.ensures.same ∙ same;
     }

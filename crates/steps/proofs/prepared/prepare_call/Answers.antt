@@ -17,7 +17,7 @@ returns-in-Open g c =
     let all = c.gather.new.self in
     let gathered = c.in-Open.ensures in
     record {
-      step = calling_open ms (g.R.Run.end run) c.args.slot c.args.name c.args.left.now (waiting c.args.w.now) (g.R.Run.rest run) _ _ (inside all) (fits all.inside) gathered.dropped (arguments_in ms all) c.open_fault_lem.result (gathered.gathered ms) (c.open_fault_lem.ensures ∙ ap (λ e. open_fault e c.args.name.line) (c.ending.ensures ∙ gathered.same));
+      step = calling_open ms (g.R.Run.end run) c.args.slot c.args.name c.args.left.now (waiting c.args.w.now) (g.R.Run.rest run) _ _ (inside all) (fits all.inside) gathered.dropped (arguments_in ms all) c.open_fault.result (gathered.gathered ms) (c.open_fault.ensures ∙ ap (λ e. open_fault e c.args.name.line) (c.ending.ensures ∙ gathered.same));
       falls = tt;
       same = gathered.same;
     }
@@ -29,9 +29,9 @@ returns-then-not-part g c =
     let all = c.gather.new.self in
     let gathered = c.in-Closed.ensures in
     record {
-      step = calling_count ms (g.R.Run.end run) c.args.slot c.args.name c.args.left.now (waiting c.args.w.now) (g.R.Run.rest run) _ _ (inside all) (fits all.inside) gathered.dropped c.in-Closed.close (gathered.gathered ms) _ _ c.drop-front.ensures.dropped (arguments_in ms c.part.new.arguments) c.fault-at-then-not-part.result c.if-not-part.ensures c.fault-at-then-not-part.ensures;
+      step = calling_count ms (g.R.Run.end run) c.args.slot c.args.name c.args.left.now (waiting c.args.w.now) (g.R.Run.rest run) _ _ (inside all) (fits all.inside) gathered.dropped c.in-Closed.close (gathered.gathered ms) _ _ c.drop_front.ensures.dropped (arguments_in ms c.part.new.arguments) c.fault_at-then-not-part.result c.if-not-part.ensures c.fault_at-then-not-part.ensures;
       falls = tt;
-      same = c.drop-front.ensures.same ∙ gathered.same;
+      same = c.drop_front.ensures.same ∙ gathered.same;
     }
 
 pub returns-else-not-part : goal.returns-else-not-part
@@ -43,9 +43,9 @@ returns-else-not-part g c =
     let all = c.gather.new.self in
     let gathered = c.in-Closed.ensures in
     let counted = c.counted.ensures in
-    let call = c.call-of-call in
+    let call = c.call_of-call in
     record {
-      step = calling_closed ms (g.R.Run.end run) c.args.slot c.args.name c.args.left.now w rest _ _ (inside all) (fits all.inside) gathered.dropped c.in-Closed.close (gathered.gathered ms) _ _ c.drop-front.ensures.dropped (arguments_in ms c.part.new.arguments) call.result c.counted.new.left c.counted.result c.hidden-by.result c.if-not-part.ensures (λ v. slot-within c.args.context.definitions.now.force v c.args.slot) c.hidden-by.ensures call.ensures.place call.ensures.hides counted.answer counted.less;
-      falls = falling_counted c.args.left.now w rest _ _ (length (inside all) + 1) (dropped_more _ (length (inside all)) 1 w rest _ _ _ _ (λ j. length (inside all) + 1) gathered.dropped c.drop-front.ensures.dropped) call.result c.args.name.line _ c.counted.result counted.answer counted.less;
-      same = c.drop-front.ensures.same ∙ gathered.same;
+      step = calling_closed ms (g.R.Run.end run) c.args.slot c.args.name c.args.left.now w rest _ _ (inside all) (fits all.inside) gathered.dropped c.in-Closed.close (gathered.gathered ms) _ _ c.drop_front.ensures.dropped (arguments_in ms c.part.new.arguments) call.result c.counted.new.left c.counted.result c.hidden_by.result c.if-not-part.ensures (λ v. slot-within c.args.context.definitions.now.force v c.args.slot) c.hidden_by.ensures call.ensures.place call.ensures.hides counted.answer counted.less;
+      falls = falling_counted c.args.left.now w rest _ _ (length (inside all) + 1) (dropped_more _ (length (inside all)) 1 w rest _ _ _ _ (λ j. length (inside all) + 1) gathered.dropped c.drop_front.ensures.dropped) call.result c.args.name.line _ c.counted.result counted.answer counted.less;
+      same = c.drop_front.ensures.same ∙ gathered.same;
     }
