@@ -1,5 +1,5 @@
 -- What a token is to replacement. Assumes nothing.
-use Rattle.std.specs.Prelude.{ℕ, Bool, cond, not, ◌&&◌, List, Some, None, codes, Option}
+use Rattle.std.specs.Prelude.{ℕ, cond, not, ◌&&◌, List, Some, None, codes, Option}
 use Rattle.std.specs.List.{slice_get}
 use Rattle.std.specs.Str.{bytes_eq}
 use Rattle.item.specs.declared.hide_set.HideSet.{HideSet}

@@ -1,5 +1,5 @@
 -- What a token table holds. Assumes nothing.
-use Rattle.std.specs.Prelude.{ℕ, List, [], map, take, drop, vec_items}
+use Rattle.std.specs.Prelude.{ℕ, List, map, take, drop, vec_items}
 use Rattle.token.specs.declared.table.TokenTable.{TokenTable}
 use Rattle.token.specs.declared.record.Record.{Record}
 use Rattle.token.specs.declared.TokenRef.{TokenRef}
