@@ -2,7 +2,7 @@
 ghost use Rattle.std.specs.Prelude.{◌≡◌, None};
 ghost use Rattle.std.specs.Option.{option_map};
 ghost use Rattle.token.specs.Views.{view_tokens};
-ghost use Rattle.definition.specs.Definitions.{define, behind_name, in_parentheses, parted, function_like, made, parameters as parametersOf};
+ghost use Rattle.definition.specs.Definitions.{define, behind_name, in_parentheses, parted, function_like, made, parameters as parameters_of};
 ghost use Rattle.definition.specs.Meaning.{macro_of};
 
 use crate::Definition;
@@ -64,7 +64,7 @@ fn read_parameters<'a>(name: &'a [u8], tokens: Tokens<'a>) -> Option<Definition<
 }
 
 fn function_like<'a>(name: &'a [u8], inside: Tokens<'a>, list: Tokens<'a>) -> Option<Definition<'a>>
-    ensures { option_map macro_of result ≡ function_like name.now (view_tokens list.entry) (parametersOf (view_tokens inside.entry)) }
+    ensures { option_map macro_of result ≡ function_like name.now (view_tokens list.entry) (parameters_of (view_tokens inside.entry)) }
 {
     if !are_parameters(inside) {
         return None;

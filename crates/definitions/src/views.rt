@@ -7,7 +7,7 @@ ghost use Rattle.token.specs.Views.{view_tokens};
 ghost use Rattle.definition.specs.Meaning.{macro_of, parameter_names};
 ghost use Rattle.definition.specs.Parameters.{words as words_of};
 ghost use Rattle.definitions.specs.Blocks.{spellings};
-ghost use Rattle.definitions.specs.InForce.{same_tokens, same_list, same_words, same_parameters, same as sameMacro};
+ghost use Rattle.definitions.specs.InForce.{same_tokens, same_list, same_words, same_parameters, same as same_definition};
 ghost use Rattle.definitions.specs.Layout.{starts_called, same_token, starts_same};
 ghost use Rattle.definitions.specs.Meaning.{stored_macro};
 
@@ -112,7 +112,7 @@ fn same_parameters(names: Option<Tokens<'_>>, parameters: Option<Tokens<'_>>) ->
 
 // Whether the definition is the same as the one in force.
 pub(crate) fn same_macro(stored: Macro<'_>, definition: Definition<'_>) -> bool
-    ensures { result ≡ sameMacro (stored_macro stored.entry) (macro_of definition.entry) }
+    ensures { result ≡ same_definition (stored_macro stored.entry) (macro_of definition.entry) }
 {
     same_parameters(stored.parameters, definition.parameters)
         && same_list(stored.list, definition.list)

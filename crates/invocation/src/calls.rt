@@ -2,9 +2,9 @@
 ghost use Rattle.std.specs.Prelude.{◌≡◌, ℕ, ◌-◌, ◌<◌, ◌≤◌, ◌&&◌, List, [], ◌++◌, map, length, IfOk, if◌then◌else◌, Some, None, vec_capacity, codes, ◌==◌, nat_le, slice_index_or};
 ghost use Rattle.std.specs.List.{slice_get};
 ghost use Rattle.item.specs.Tables.{shown, referred_to};
-ghost use Rattle.definition.specs.Definitions.{Macro, member, spells, variable as variableName};
+ghost use Rattle.definition.specs.Definitions.{Macro, member, spells, variable as variable_name};
 ghost use Rattle.replacement.specs.Meaning.{items_of};
-ghost use Rattle.replacement.specs.Replacing.{arguments as parted, operand_of, parted as partedAt};
+ghost use Rattle.replacement.specs.Replacing.{arguments as parted, operand_of, parted as parted_at};
 ghost use Rattle.invocation.specs.Calls.{inside as between, Gathering, part_of, arguments_in, end_before};
 ghost use Rattle.invocation.specs.Fronts.{waiting, Dropped, depth_behind};
 
@@ -52,7 +52,7 @@ impl Arguments {
     // Whether the tokens in parentheses are as many arguments as there are parameters; all that is left belongs to the
     // last one where that is variable.
     pub fn part(&mut self, parameters: usize, variable: bool) -> bool
-        ensures parts { (ms : List Macro) (ps : List (List ℕ)) → length ps ≡ parameters → member variableName ps ≡ variable → parted ps (items_of ms (between self.old)) ≡ (if result then Some (arguments_in ms self.new) else None) }
+        ensures parts { (ms : List Macro) (ps : List (List ℕ)) → length ps ≡ parameters → member variable_name ps ≡ variable → parted ps (items_of ms (between self.old)) ≡ (if result then Some (arguments_in ms self.new) else None) }
         ensures same { between self.new ≡ between self.old }
     {
         self.spans.clear();
@@ -126,7 +126,7 @@ fn part_at_commas(inside: TagView<'_, HideSet>, most: usize, spans: &mut Vec<Spa
     requires few { length (shown inside) ≤ 1024 }
     requires none { spans.old.items ≡ [] }
     requires room { 1025 ≤ vec_capacity spans.old }
-    ensures parts { (ms : List Macro) → map (part_of ms (shown inside.entry)) spans.new.items ≡ partedAt most 0 (items_of ms (shown inside.entry)) }
+    ensures parts { (ms : List Macro) → map (part_of ms (shown inside.entry)) spans.new.items ≡ parted_at most 0 (items_of ms (shown inside.entry)) }
     ensures room { 1025 ≤ vec_capacity spans.new }
 {
     let mut left = most;

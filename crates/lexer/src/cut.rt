@@ -3,7 +3,7 @@ ghost use Rattle.std.specs.Prelude.{◌≡◌, ◌≤◌, not, ◌&&◌, [], len
 ghost use Rattle.text.specs.Bytes.{admitted};
 ghost use Rattle.source.specs.Lines.{held};
 ghost use Rattle.text.specs.Placing.{placed};
-ghost use Rattle.lexer.specs.Cutting.{scan as frontToken, token, front, white, cut_line, fitting, one_token};
+ghost use Rattle.lexer.specs.Cutting.{scan as front_token, token, front, white, cut_line, fitting, one_token};
 ghost use Rattle.lexer.specs.Grammar.{Lexical};
 ghost use Rattle.lexer.specs.Scanning.{measured};
 ghost use Rattle.token.specs.Tables.{table_tokens};
@@ -81,7 +81,7 @@ impl LineTokens {
 
 // The kind and the length of the token at the front, or the fault there, on the given line.
 fn measure(bytes: &[u8], line: u32) -> Result<(Kind, usize), Fault>
-    ensures { result ≡ measured (frontToken bytes.now) line }
+    ensures { result ≡ measured (front_token bytes.now) line }
 {
     match scan(bytes) {
         Scanned::Token(kind, len) => limited(kind, len, line),

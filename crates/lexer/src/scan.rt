@@ -1,7 +1,7 @@
 // The token at the front of bytes: its kind, and how long it is.
 ghost use Rattle.std.specs.Prelude.{◌≡◌, ◌+◌, ◌^◌, ◌<◌, false, ◌&&◌, ◌||◌, [], ◌∷◌, length, ◌==◌, slice_index};
 ghost use Rattle.text.specs.Bytes.{name_byte};
-ghost use Rattle.lexer.specs.Cutting.{scan as frontToken, literal as literalToken, sign, exponent, white, name_length, number_length, literal_length};
+ghost use Rattle.lexer.specs.Cutting.{scan as front_token, literal as literal_token, sign, exponent, white, name_length, number_length, literal_length};
 ghost use Rattle.lexer.specs.Punctuators.{ones, twos, threes, fours, punctuators, longest};
 ghost use Rattle.lexer.specs.Scanning.{scanned, class_of, symbol_token, starting, longest_of};
 
@@ -183,7 +183,7 @@ fn punctuator_length(bytes: &[u8]) -> usize
 // A literal with so many bytes up to the mark that opens it, and then the bytes.
 fn literal(mark: u8, opening: usize, bytes: &[u8]) -> Scanned
     requires { opening + length bytes.now < 2 ^ 64 }
-    ensures { scanned result ≡ literalToken mark opening bytes.now }
+    ensures { scanned result ≡ literal_token mark opening bytes.now }
 {
     match literal_length(mark, bytes) {
         None => Scanned::Unclosed,
@@ -222,7 +222,7 @@ fn classify(first: u8, second: u8) -> Class
 }
 
 pub(crate) fn scan(bytes: &[u8]) -> Scanned
-    ensures { scanned result ≡ frontToken bytes.now }
+    ensures { scanned result ≡ front_token bytes.now }
 {
     if bytes.is_empty() {
         return Scanned::Unclosed;

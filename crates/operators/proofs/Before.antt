@@ -10,7 +10,7 @@ use Rattle.item.proofs.Beside.{bytes-append, nth_beyond}
 use Rattle.item.specs.declared.hide_set.HideSet.{HideSet}
 use Rattle.item.specs.Tagged.{Tagged, bytes, fit}
 use Rattle.definition.specs.Definitions.{Macro}
-use Rattle.replacement.specs.Items.{Item, bytes as itemBytes, over, hiding, marking, marking_first}
+use Rattle.replacement.specs.Items.{Item, bytes as bytes_of_item, over, hiding, marking, marking_first}
 use Rattle.replacement.specs.Meaning.{item_of, items_of, hidden}
 use Rattle.operators.proofs.Listed.{nth-map, drop_nth}
 use Rattle.operators.proofs.Sized.{items_length, items_bytes, item_bytes-append}
@@ -34,8 +34,8 @@ fit-over ms xs =
 over_more : (is js : List Item) → over js ≡ true → over (is ++ js) ≡ true
 over_more is js h =
     let longer : ltb 1024 (length js) ≡ true → ltb 1024 (length (is ++ js)) ≡ true = λ e. lt-ltb _ _ (simp length-append (omega (arith, ltb-true 1024 (length js) e))) in
-    let larger : ltb 16384 (itemBytes js) ≡ true → ltb 16384 (itemBytes (is ++ js)) ≡ true = λ e. lt-ltb _ _ (simp item_bytes-append (omega (arith, ltb-true 16384 (itemBytes js) e))) in
-    ⊎_elim (λ e. or_left _ _ (longer e)) (λ e. or_right _ _ (larger e)) (or_cases (ltb 1024 (length js)) (ltb 16384 (itemBytes js)) h)
+    let larger : ltb 16384 (bytes_of_item js) ≡ true → ltb 16384 (bytes_of_item (is ++ js)) ≡ true = λ e. lt-ltb _ _ (simp item_bytes-append (omega (arith, ltb-true 16384 (bytes_of_item js) e))) in
+    ⊎_elim (λ e. or_left _ _ (longer e)) (λ e. or_right _ _ (larger e)) (or_cases (ltb 1024 (length js)) (ltb 16384 (bytes_of_item js)) h)
 
 -- the token at a place of the result
 module _ (m : Bool) (h : List ℕ → Bool) where

@@ -9,7 +9,7 @@ use Rattle.item.specs.Tagged.{Tagged, bytes, fit}
 use Rattle.token.specs.Tokens.{Token}
 use Rattle.definition.specs.Definitions.{Macro}
 use Rattle.definitions.specs.InForce.{slot}
-use Rattle.replacement.specs.Items.{bytes as itemBytes}
+use Rattle.replacement.specs.Items.{bytes as bytes_of_item}
 use Rattle.replacement.specs.Joining.{operand, settled}
 use Rattle.replacement.specs.Meaning.{item_of, items_of, hidden}
 use Rattle.operators.specs.declared.Role.{Role}
@@ -39,7 +39,7 @@ token_of t (Plain h) x e = ap (λ y. y.token) (let same : x ≡ record { token =
 token_of t Join x e = ap (λ y. y.token) (let same : x ≡ record { token = t; tag = empty_set } = cc in same)
 token_of t Nothing x e = let z : ◌≡◌ {A = ℕ} 0 1 = cc in absurd (omega arith)
 
-role_size : (ms : List Macro) (t : Token) (r : Role) → (length (settled (operand (in_role ms t r))) ≤ 1) × (itemBytes (settled (operand (in_role ms t r))) ≤ length t.spelling)
+role_size : (ms : List Macro) (t : Token) (r : Role) → (length (settled (operand (in_role ms t r))) ≤ 1) × (bytes_of_item (settled (operand (in_role ms t r))) ≤ length t.spelling)
 role_size ms t (Plain h) = (omega arith, omega arith)
 role_size ms t Join = (omega arith, omega arith)
 role_size ms t Nothing = (omega arith, omega arith)
@@ -49,7 +49,7 @@ module _ (part : Tagged Role) where
   pub operand_is : (ms : List Macro) (o : Option (Tagged HideSet)) → o ≡ operand_of part → option_map (item_of ms) o ≡ operand (piece_of ms part)
   operand_is ms o e = ap (option_map (item_of ms)) e ∙ in_role_lem ms part.token part.tag
 
-  pub operand-size : (ms : List Macro) → (length (settled (operand (piece_of ms part))) ≤ 1) × (itemBytes (settled (operand (piece_of ms part))) ≤ length part.token.spelling)
+  pub operand-size : (ms : List Macro) → (length (settled (operand (piece_of ms part))) ≤ 1) × (bytes_of_item (settled (operand (piece_of ms part))) ≤ length part.token.spelling)
   operand-size ms = role_size ms part.token part.tag
 
   pub operand-room : (x : Tagged HideSet) (n : ℕ) → Some x ≡ operand_of part → n + length part.token.spelling ≤ 16384 → n + length x.token.spelling ≤ 16384

@@ -7,7 +7,7 @@ use Rattle.item.specs.declared.hide_set.HideSet.{HideSet}
 use Rattle.item.specs.Tagged.{Tagged, bytes, fit}
 use Rattle.token.specs.Tokens.{Token}
 use Rattle.definition.specs.Definitions.{Macro}
-use Rattle.replacement.specs.Items.{Item, bytes as itemBytes, fresh, giving, fault}
+use Rattle.replacement.specs.Items.{Item, bytes as bytes_of_item, fresh, giving, fault}
 use Rattle.replacement.specs.Joining.{Piece, joiner, join_all, operand, settled}
 use Rattle.replacement.specs.Meaning.{items_of}
 use Rattle.operators.specs.declared.Role.{Role}
@@ -74,7 +74,7 @@ module _ (line : ℕ) (all : List (Tagged Role)) (o : Bool) (xs : List (Tagged H
         let size = operand-size x [] in
         let last = settled (operand (piece_of [] x)) in
         let count : length ys ≡ length xs + length last = sym (items_length [] ys) ∙ ap length (f []) ∙ length-append (items_of [] xs) last ∙ ap (λ k. k + length last) (items_length [] xs) in
-        let bulk : bytes ys ≡ bytes xs + itemBytes last = sym (items_bytes [] ys) ∙ ap itemBytes (f []) ∙ item_bytes-append (items_of [] xs) last ∙ ap (λ k. k + itemBytes last) (items_bytes [] xs) in
+        let bulk : bytes ys ≡ bytes xs + bytes_of_item last = sym (items_bytes [] ys) ∙ ap bytes_of_item (f []) ∙ item_bytes-append (items_of [] xs) last ∙ ap (λ k. k + bytes_of_item last) (items_bytes [] xs) in
         (λ ms left. inv.0 ms left ∙ ap (λ v. going_on line left o (items_of ms xs) (pieces_of ms v)) front ∙ at_role line left o (items_of ms xs) ms x.token x.tag (pieces_of ms (drop (n + 1) all)) h ∙ (λ k. going_on line left (sym e k) (sym (f ms) k) (pieces_of ms (drop (n + 1) all))), omega (arith, ap length front, inv.1, size.0), omega (arith, ap bytes front, inv.2, size.1))
 
     -- the operator

@@ -5,7 +5,7 @@ ghost use Rattle.item.specs.Tables.{held, referred_to};
 ghost use Rattle.item.specs.Tagged.{bytes as bytes_of};
 ghost use Rattle.definition.specs.Definitions.{Macro};
 ghost use Rattle.replacement.specs.Items.{giving, fault, shared};
-ghost use Rattle.replacement.specs.Joining.{join_all, operand as operandIn, settled};
+ghost use Rattle.replacement.specs.Joining.{join_all, operand as operand_in, settled};
 ghost use Rattle.replacement.specs.Meaning.{item_of, items_of, hidden};
 ghost use Rattle.token.specs.Tables.{referred};
 ghost use Rattle.lexer.specs.Cutting.{one_token};
@@ -93,7 +93,7 @@ fn item_of(part: TagRef<'_, Role>) -> Option<TagRef<'_, HideSet>>
 // The piece goes to the end, where it is more than a placemarker.
 fn push_piece(part: TagRef<'_, Role>, joined: &mut TagTable<HideSet>)
     requires { (length (held joined.old) < 1024) × (bytes_of (held joined.old) + length part.token.spelling.now ≤ 16384) }
-    ensures { (ms : List Macro) → items_of ms (held joined.new) ≡ items_of ms (held joined.old) ++ settled (operandIn (piece_of ms (referred_to part.entry))) }
+    ensures { (ms : List Macro) → items_of ms (held joined.new) ≡ items_of ms (held joined.old) ++ settled (operand_in (piece_of ms (referred_to part.entry))) }
 {
     if let Some(item) = item_of(part) {
         joined.push(item);
@@ -109,7 +109,7 @@ fn join_next(
     joined: &mut TagTable<HideSet>,
 ) -> bool
     requires { (length (held joined.old) < 1024) × (bytes_of (held joined.old) + length right.token.spelling.now ≤ 16384) }
-    ensures { (ms : List Macro) → (if result then Some (items_of ms (held joined.new)) else None) ≡ joined_end line operand (items_of ms (held joined.old)) (operandIn (piece_of ms (referred_to right.entry))) }
+    ensures { (ms : List Macro) → (if result then Some (items_of ms (held joined.new)) else None) ≡ joined_end line operand (items_of ms (held joined.old)) (operand_in (piece_of ms (referred_to right.entry))) }
 {
     let Some(item) = item_of(right) else {
         return true;

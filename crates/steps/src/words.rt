@@ -3,14 +3,14 @@ ghost use Rattle.std.specs.Prelude.{◌≡◌, false, map, Some, None};
 ghost use Rattle.std.specs.List.{slice_get};
 ghost use Rattle.std.specs.Str.{bytes_eq};
 ghost use Rattle.token.specs.Views.{view_tokens};
-ghost use Rattle.definitions.specs.InForce.{index as indexIn};
+ghost use Rattle.definitions.specs.InForce.{index as index_in};
 
 use text::same_bytes;
 use token::Tokens;
 
 // The index of the first token that spells the word.
 pub fn index_of(tokens: Tokens<'_>, word: &[u8]) -> Option<usize>
-    ensures { result ≡ indexIn word.now (map (λ t. t.spelling) (view_tokens tokens.entry)) }
+    ensures { result ≡ index_in word.now (map (λ t. t.spelling) (view_tokens tokens.entry)) }
 {
     for index in 0..tokens.len() {
         if is_spelled(tokens, index, word) {

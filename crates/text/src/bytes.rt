@@ -1,6 +1,6 @@
 // What a byte may be.
 ghost use Rattle.std.specs.Prelude.{◌≡◌};
-ghost use Rattle.text.specs.Bytes.{digit, name_byte, admitted, mark as opensLiteral, quoting};
+ghost use Rattle.text.specs.Bytes.{digit, name_byte, admitted, mark as opens_literal, quoting};
 
 pub fn is_digit(byte: u8) -> bool
     ensures { result ≡ digit byte }
@@ -24,7 +24,7 @@ pub fn is_admitted(byte: u8) -> bool
 
 // Whether the byte opens a literal.
 pub fn is_mark(byte: u8) -> bool
-    ensures { result ≡ opensLiteral byte }
+    ensures { result ≡ opens_literal byte }
 {
     byte == b'\'' || byte == b'"'
 }
