@@ -3,6 +3,8 @@
 
 usage: python3 tools/respell.py      at the top of the repository, once, after port.py
 
+It stops where docs/PORT.md tells that this is done: what was mended by hand since would turn again.
+
 A row has the old name, a tab and the new one; a third part names the one file in which the row holds.
 In .antt files whole words turn, and lowerCamelCase ones in comments too. In .rt files only rows in lowerCamelCase turn, since
 Rust has no such name. In must-fail edits the lines of a .antt file turn, and the words in lowerCamelCase of a .rt file.
@@ -76,6 +78,9 @@ def turned(path, text, table):
 
 
 def main():
+    if os.path.exists(os.path.join("docs", "PORT.md")):
+        print("respell: done before, as docs/PORT.md says", file=sys.stderr)
+        return 2
     every, one = rows()
     paths = ["README.md"] + [os.path.join("docs", f) for f in sorted(os.listdir("docs")) if f.endswith(".md")]
     for folder, dirs, files in os.walk("crates"):

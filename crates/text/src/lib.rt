@@ -54,11 +54,19 @@ impl FaultKind {
     {
         match self {
             FaultKind::BrokenFile | FaultKind::BadByte | FaultKind::LongFile => 1,
-            FaultKind::OpenComment
-            | FaultKind::OpenLiteral
-            | FaultKind::LongLine
-            | FaultKind::LongToken => 3,
-            _ => 4,
+            FaultKind::UnknownDirective
+            | FaultKind::BadDirective
+            | FaultKind::BadDefinition
+            | FaultKind::OtherDefinition
+            | FaultKind::OpenCall
+            | FaultKind::ArgumentCount
+            | FaultKind::BadJoin
+            | FaultKind::BadLiteral
+            | FaultKind::ManyDefinitions
+            | FaultKind::ManyTokens
+            | FaultKind::ManyReplacements
+            | FaultKind::DeepArguments => 4,
+            _ => 3,
         }
     }
 }
