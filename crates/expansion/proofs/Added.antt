@@ -45,7 +45,7 @@ pub sized_append : (xs ys : List (Tagged Role)) → Sized xs → Sized ys → Si
 sized_append xs ys s t ms =
     ap piece_bytes (map-append (piece_of ms) xs ys) ∙ piece-bytes-append (pieces_of ms xs) (pieces_of ms ys) ∙ (λ j. s ms j + t ms j) ∙ sym (bytes-append xs ys)
 
-within : (n b : ℕ) → (leb n 1024 && leb b 16384) ≡ not (ltb 1024 n || ltb 16384 b)
+pub within : (n b : ℕ) → (leb n 1024 && leb b 16384) ≡ not (ltb 1024 n || ltb 16384 b)
 within n b = grind (arith, nat_tests)
 
 -- a table that fits is not over

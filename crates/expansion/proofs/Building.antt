@@ -1,6 +1,8 @@
 -- The parts of a list, one after the other. Assumes nothing.
-use Rattle.std.proofs.Common.{◌≡◌, ℕ, zero, suc, ◌+◌, ◌-◌, Bool, true, false, cond, ◌||◌, ltb, List, [], ◌∷◌, ◌++◌, length, drop, is_some, Some, None, Option, sym, refl, ap, ◌∙◌, subst, inl, inr, append_assoc, append-nil, arith, length-append}
+use Rattle.std.proofs.Common.{◌≡◌, ℕ, zero, suc, ◌+◌, ◌-◌, ◌≤◌, Bool, true, false, cond, ◌||◌, ltb, List, [], ◌∷◌, ◌++◌, length, drop, is_some, Some, None, Option, sym, refl, ap, ◌∙◌, subst, inl, inr, append_assoc, append-nil, arith, length-append}
 use Rattle.std.specs.List.{slice_get}
+use Rattle.std.specs.Option.{option_map}
+use Rattle.std.specs.Str.{bytes_eq}
 use Rattle.std.proofs.lemmas.List.{drop-drop}
 use Rattle.std.proofs.lemmas.Option.{slice_get_past}
 use Rattle.std.proofs.lemmas.Bool.{cases_Bool, cond-true, cond-false, le-ltb, lt-ltb}
@@ -10,8 +12,7 @@ use Rattle.definition.specs.Definitions.{hash, join}
 use Rattle.definitions.specs.InForce.{index}
 use Rattle.replacement.specs.Items.{Item, End, whole, fault, Outcome, giving, failing, ◌then◌, fresh, placing, limited}
 use Rattle.replacement.specs.Joining.{Piece, piece, joiner, literal}
-use Rattle.replacement.specs.Replacing.{Expander, raw, argument_pieces, expanded, argument_of, operand_of, substituted, built, piece_bytes, limited_pieces}
-use Rattle.operators.proofs.Listed.{drop_nth, drop_none}
+use Rattle.replacement.specs.Replacing.{Expander, place, raw, argument_pieces, expanded, argument_of, operand_of, substituted, built, piece_bytes, limited_pieces}
 use Rattle.expansion.specs.declared.part.Part.{Part}
 use Rattle.expansion.specs.declared.part.Part.TheVariants.{Token, Join, Literal, Raw, Expanded}
 use Rattle.expansion.specs.Parts.{within, argument_at, substituted_part, literal_part, part_of, given, width, is_join_part, added_to}
@@ -65,7 +66,32 @@ module _ (e : Expander) (line : ℕ) (args : List (List Item)) (t : PlainToken) 
     literal-part None = ap (λ o. literal t line (operand_of o) left then next false 1) (sym (slice_get_past args (length args) (omega arith)))
     literal-part (Some k) = literal_at k (slice_get args k) refl ∙ ap (λ v. part_then next (literal_part (length args) (cond v (Some k) None))) (sym (index-within args k))
 
+-- the place of a word among words, counted from a number on
+counted_from : (k : ℕ) (o : Option ℕ) → option_map (λ j. suc k + j) o ≡ option_map (λ j. k + j) (option_map suc o)
+counted_from k None = refl
+counted_from k (Some j) = let same : suc k + j ≡ k + suc j = omega arith in ap Some same
+
+place_from : (k : ℕ) (n : List ℕ) (ps : List (List ℕ)) → place k n ps ≡ option_map (λ j. k + j) (index n ps)
+place_from k n [] = refl
+place_from k n (p ∷ ps) =
+    let first : k ≡ k + 0 = omega arith in
+    elim (bytes_eq n p) as (λ v. cond v (Some k) (place (suc k) n ps) ≡ option_map (λ j. k + j) (cond v (Some 0) (option_map suc (index n ps)))) [
+      | true ↦ ap Some first
+      | false ↦ place_from (suc k) n ps ∙ counted_from k (index n ps)
+    ]
+
+counted_once : (o : Option ℕ) → option_map (λ j. 0 + j) o ≡ o
+counted_once None = refl
+counted_once (Some j) = let same : 0 + j ≡ j = omega arith in ap Some same
+
+place_index : (n : List ℕ) (ps : List (List ℕ)) → place 0 n ps ≡ index n ps
+place_index n ps = place_from 0 n ps ∙ counted_once (index n ps)
+
 module _ (e : Expander) (line : ℕ) (args : List (List Item)) where
+  -- the argument at a place
+  abbrev at_place : Option ℕ → Option (List Item)
+  at_place o = elim o [ None ↦ None | Some k ↦ slice_get args k ]
+
   -- the tokens of a list behind a part
   abbrev behind : Option (List (List ℕ)) → List PlainToken → Bool → ℕ → ℕ → Outcome Piece
   behind ps ts joins skip n = built e line ps args joins n (drop skip ts)
@@ -82,7 +108,7 @@ module _ (e : Expander) (line : ℕ) (args : List (List Item)) where
         | false ↦ substituted e line joins t (argument_of ps args t) left
       ] ≡ part_then e line args t left (behind (Some ps) []) (cond v Join (substituted_part (argument_at ps (length args) t) joins))) [
         | true ↦ refl
-        | false ↦ sym (then-nothing _ _ _) ∙ substituted-part e line args t left (behind (Some ps) []) joins (index t.spelling ps)
+        | false ↦ ap (λ o. substituted e line joins t (at_place o) left) (place_index t.spelling ps) ∙ (sym (then-nothing _ _ _) ∙ substituted-part e line args t left (behind (Some ps) []) joins (index t.spelling ps))
       ]
   part_step (Some ps) joins left t (u ∷ ts) =
       elim (join t) as (λ v. elim v [
@@ -97,8 +123,8 @@ module _ (e : Expander) (line : ℕ) (args : List (List Item)) where
           | true ↦ literal t line (operand_of (argument_of ps args u)) left then (λ n. built e line (Some ps) args false n ts)
           | false ↦ substituted e line (joins || join u) t (argument_of ps args t) left then (λ n. built e line (Some ps) args false n (u ∷ ts))
         ] ≡ part_then e line args t left (behind (Some ps) (u ∷ ts)) (cond w (literal_part (length args) (argument_at ps (length args) u)) (substituted_part (argument_at ps (length args) t) (joins || join u)))) [
-          | true ↦ literal-part e line args t left (behind (Some ps) (u ∷ ts)) (index u.spelling ps)
-          | false ↦ substituted-part e line args t left (behind (Some ps) (u ∷ ts)) (joins || join u) (index t.spelling ps)
+          | true ↦ ap (λ o. literal t line (operand_of (at_place o)) left then (λ n. built e line (Some ps) args false n ts)) (place_index u.spelling ps) ∙ literal-part e line args t left (behind (Some ps) (u ∷ ts)) (index u.spelling ps)
+          | false ↦ ap (λ o. substituted e line (joins || join u) t (at_place o) left then (λ n. built e line (Some ps) args false n (u ∷ ts))) (place_index t.spelling ps) ∙ substituted-part e line args t left (behind (Some ps) (u ∷ ts)) (joins || join u) (index t.spelling ps)
         ]
       ]
 
@@ -190,55 +216,74 @@ nth_drop zero (x ∷ xs) = refl
 nth_drop (suc n) [] = refl
 nth_drop (suc n) (x ∷ xs) = nth_drop n xs
 
-width_skip : (at : ℕ) (p : Part) → (at + 1) + (width p - 1) ≡ at + width p
-width_skip at Token = omega arith
-width_skip at Join = omega arith
-width_skip at (Literal k) = omega arith
-width_skip at (Raw k) = omega arith
-width_skip at (Expanded k) = omega arith
+width_skip : (p : Part) → 1 + (width p - 1) ≡ width p
+width_skip Token = omega arith
+width_skip Join = omega arith
+width_skip (Literal k) = omega arith
+width_skip (Raw k) = omega arith
+width_skip (Expanded k) = omega arith
 
-module _ (e : Expander) (line : ℕ) (ps : Option (List (List ℕ))) (args : List (List Item)) (list : List PlainToken) where
-  -- what is left of a list from a place on
-  abbrev pub from : Bool → ℕ → ℕ → Outcome Piece
-  from joins at n = built e line ps args joins n (drop at list)
+-- a part is at least one token
+pub width_some : (p : Part) → 1 ≤ width p
+width_some Token = omega arith
+width_some Join = omega arith
+width_some (Literal k) = omega arith
+width_some (Raw k) = omega arith
+width_some (Expanded k) = omega arith
+
+first_of : (list : List PlainToken) (t : PlainToken) → Some t ≡ slice_get list 0 → list ≡ t ∷ drop 1 list
+first_of [] t h = cc h
+first_of (x ∷ list) t h = let same : t ≡ x = cc in ap (λ z. z ∷ list) (sym same)
+
+none_of : (list : List PlainToken) → None ≡ slice_get list 0 → list ≡ []
+none_of [] h = refl
+none_of (x ∷ list) h = cc h
+
+module _ (e : Expander) (line : ℕ) (ps : Option (List (List ℕ))) (args : List (List Item)) where
+  -- what is left of a list
+  abbrev pub from : Bool → List PlainToken → ℕ → Outcome Piece
+  from joins rest n = built e line ps args joins n rest
 
   -- the pieces so far and what is left make up the whole
-  module _ (b : Outcome Piece) (qs : List Piece) (left at : ℕ) (joins : Bool) (inv : b ≡ (giving qs left then from joins at)) where
-    pub built_end : None ≡ slice_get list at → b ≡ giving qs left
+  module _ (b : Outcome Piece) (qs : List Piece) (left : ℕ) (rest : List PlainToken) (joins : Bool) (inv : b ≡ (giving qs left then from joins rest)) where
+    pub built_end : None ≡ slice_get rest 0 → b ≡ giving qs left
     built_end h =
-        inv ∙ ap (λ ts. giving qs left then (λ n. built e line ps args joins n ts)) (drop_none list at (sym h)) ∙ ap (λ rs. giving rs left) (append-nil qs)
+        inv ∙ ap (λ ts. giving qs left then (λ n. built e line ps args joins n ts)) (none_of rest h) ∙ ap (λ rs. giving rs left) (append-nil qs)
 
-    pub built-limited : None ≡ slice_get list at → over_pieces qs ≡ false → limited_pieces line b ≡ giving qs left
+    pub built-limited : None ≡ slice_get rest 0 → over_pieces qs ≡ false → limited_pieces line b ≡ giving qs left
     built-limited h fits = ap (limited_pieces line) (built_end h) ∙ limited-within line (giving qs left) fits
 
-    module _ (t : PlainToken) (u : Option PlainToken) (count : ℕ) (p : Part) (here : Some t ≡ slice_get list at) (beside : u ≡ slice_get list (at + 1)) (all : count ≡ length args) (is-part : p ≡ part_of ps count joins t u) where
-      from_part : (n : ℕ) → from joins at n ≡ (part_outcome e line args t n p then from (is_join_part p) (at + width p))
+    module _ (t : PlainToken) (u : Option PlainToken) (count : ℕ) (p : Part) (here : Some t ≡ slice_get rest 0) (beside : u ≡ slice_get rest 1) (all : count ≡ length args) (is-part : p ≡ part_of ps count joins t u) where
+      from_part : (n : ℕ) → from joins rest n ≡ (part_outcome e line args t n p then from (is_join_part p) (drop (width p) rest))
       from_part n =
-          let next = λ (q : Part). part_then e line args t n (behind e line args ps (drop (at + 1) list)) q in
-          ap (built e line ps args joins n) (drop_nth list at t (sym here)) ∙ part_step e line args ps joins n t (drop (at + 1) list) ∙ ap next ((λ j. part_of ps (sym all j) joins t ((nth_drop (at + 1) list ∙ sym beside) j)) ∙ sym is-part) ∙ ap (λ ts. part_outcome e line args t n p then (λ k. built e line ps args (is_join_part p) k ts)) (drop-drop (width p - 1) (at + 1) list ∙ ap (λ k. drop k list) (width_skip at p))
+          let next = λ (q : Part). part_then e line args t n (behind e line args ps (drop 1 rest)) q in
+          ap (built e line ps args joins n) (first_of rest t here) ∙ part_step e line args ps joins n t (drop 1 rest) ∙ ap next ((λ j. part_of ps (sym all j) joins t ((nth_drop 1 rest ∙ sym beside) j)) ∙ sym is-part) ∙ ap (λ ts. part_outcome e line args t n p then (λ k. built e line ps args (is_join_part p) k ts)) (drop-drop (width p - 1) 1 rest ∙ ap (λ k. drop k rest) (width_skip p))
 
-      turn : b ≡ ((giving qs left then (λ n. part_outcome e line args t n p)) then from (is_join_part p) (at + width p))
+      turn : b ≡ ((giving qs left then (λ n. part_outcome e line args t n p)) then from (is_join_part p) (drop (width p) rest))
       turn =
           let o = part_outcome e line args t left p in
-          inv ∙ ap (λ v. giving qs left then (λ _. v)) (from_part left) ∙ then-within qs o.items o.ending left o.left (from (is_join_part p) (at + width p))
+          inv ∙ ap (λ v. giving qs left then (λ _. v)) (from_part left) ∙ then-within qs o.items o.ending left o.left (from (is_join_part p) (drop (width p) rest))
 
       -- an argument that does not expand
       pub built_unexpanded : (k x y : ℕ) → p ≡ Expanded k → over_pieces qs ≡ false → (limited line (e line left (operand_of (slice_get args k)))).ending ≡ fault x y → (limited_pieces line b).ending ≡ fault x y
       built_unexpanded k x y is-expanded fits h =
           let o = limited line (e line left (operand_of (slice_get args k))) in
           let none : (giving qs left then (λ n. part_outcome e line args t n p)) ≡ record { items = qs; ending = fault x y; left = o.left } = ap (λ q. giving qs left then (λ n. part_outcome e line args t n q)) is-expanded ∙ ap (λ v. giving qs left then (λ _. argument_pieces t.marked o.items v o.left)) h ∙ ap (λ rs. record { items = rs; ending = fault x y; left = o.left }) (append-nil qs) in
-          ap (λ v. (limited_pieces line v).ending) turn ∙ fault_within line (giving qs left then (λ n. part_outcome e line args t n p)) (from (is_join_part p) (at + width p)) x y (ap (λ v. (limited_pieces line v).ending) none ∙ ap (λ v. v.ending) (limited-within line (record { items = qs; ending = fault x y; left = o.left }) fits))
+          ap (λ v. (limited_pieces line v).ending) turn ∙ fault_within line (giving qs left then (λ n. part_outcome e line args t n p)) (from (is_join_part p) (drop (width p) rest)) x y (ap (λ v. (limited_pieces line v).ending) none ∙ ap (λ v. v.ending) (limited-within line (record { items = qs; ending = fault x y; left = o.left }) fits))
 
       module _ (is : List Item) (m : ℕ) (ready : Ready e line args is left m p) where
-        ready_turn : b ≡ ((giving qs m then (λ n. given line args is t n p)) then from (is_join_part p) (at + width p))
-        ready_turn = turn ∙ ap (λ o. o then from (is_join_part p) (at + width p)) (prepared e line args is left m qs t p ready)
+        ready_turn : b ≡ ((giving qs m then (λ n. given line args is t n p)) then from (is_join_part p) (drop (width p) rest))
+        ready_turn = turn ∙ ap (λ o. o then from (is_join_part p) (drop (width p) rest)) (prepared e line args is left m qs t p ready)
 
-        pub built_turn : (rs : List Piece) → added_to line args is t p qs m ≡ giving rs m → b ≡ (giving rs m then from (is_join_part p) (at + width p))
-        built_turn rs h = ready_turn ∙ ap (λ o. o then from (is_join_part p) (at + width p)) (whole_within line (giving qs m then (λ n. given line args is t n p)) rs m h).0
+        pub built_turn : (rs : List Piece) → added_to line args is t p qs m ≡ giving rs m → b ≡ (giving rs m then from (is_join_part p) (drop (width p) rest))
+        built_turn rs h =
+            ready_turn ∙ ap (λ o. o then from (is_join_part p) (drop (width p) rest)) (whole_within line (giving qs m then (λ n. given line args is t n p)) rs m h).0
 
-        pub built-within : (rs : List Piece) → added_to line args is t p qs m ≡ giving rs m → over_pieces rs ≡ false
-        built-within rs h = (whole_within line (giving qs m then (λ n. given line args is t n p)) rs m h).1
+        -- by other names
+        pub built_more : (rs : List Piece) (joins' : Bool) (rest' : List PlainToken) → added_to line args is t p qs m ≡ giving rs m → joins' ≡ is_join_part p → rest' ≡ drop (width p) rest → b ≡ (giving rs m then from joins' rest')
+        built_more rs joins' rest' h e f =
+            built_turn rs h ∙ (λ j. giving rs m then from (sym e j) (sym f j))
 
         pub built_fault : (x y : ℕ) → (added_to line args is t p qs m).ending ≡ fault x y → (limited_pieces line b).ending ≡ fault x y
         built_fault x y h =
-            ap (λ v. (limited_pieces line v).ending) ready_turn ∙ fault_within line (giving qs m then (λ n. given line args is t n p)) (from (is_join_part p) (at + width p)) x y h
+            ap (λ v. (limited_pieces line v).ending) ready_turn ∙ fault_within line (giving qs m then (λ n. given line args is t n p)) (from (is_join_part p) (drop (width p) rest)) x y h

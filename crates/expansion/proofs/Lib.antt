@@ -1,7 +1,9 @@
 pub mod Added
 pub mod Building
+pub mod Expanding
 pub mod Falling
 pub mod Limits
 pub mod Pushed
 pub mod Results
+pub mod Substituting
 pub mod Turning

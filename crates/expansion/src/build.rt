@@ -63,13 +63,12 @@ fn build(
         return Ok(left);
     };
     let mut left = left;
-    let mut at = 0;
+    let mut rest = definition.list;
     let mut joins = false;
-    while let Some(token) = definition.list.get(at) {
-        let next = definition.list.get(at + 1);
+    while let Some(token) = rest.get(0) {
         let part = part_of(
             token,
-            next,
+            rest.get(1),
             definition.parameters,
             level.arguments.len(),
             joins,
@@ -94,7 +93,7 @@ fn build(
             &mut level.pieces,
         )?;
         joins = part.is_join();
-        at += part.width();
+        rest = rest.part(part.width(), rest.len());
     }
     Ok(left)
 }
