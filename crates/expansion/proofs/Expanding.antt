@@ -1,8 +1,11 @@
 -- What the steps of the code say of an expansion. Assumes nothing.
-use Rattle.std.proofs.Common.{◌≡◌, ℕ, suc, true, false, not, ◌||◌, ltb, ◌<◌, ◌≤◌, ◌-◌, List, [], ◌++◌, length, drop, Ok, Err, Result, sym, ap, ◌∙◌, subst, arith, length-drop}
-use Rattle.std.proofs.lemmas.Bool.{not-true}
+use Rattle.std.proofs.Common.{◌≡◌, ℕ, suc, ◌+◌, Bool, true, false, cond, not, ◌||◌, ltb, ◌<◌, ◌≤◌, ◌-◌, List, [], ◌∷◌, ◌++◌, length, take, drop, Some, None, Ok, Err, Result, inl, inr, sym, refl, ap, ◌∙◌, subst, arith, length-drop}
+use Rattle.std.proofs.lemmas.Bool.{cases_Bool, not-true, not-false, ltb-true}
+use Rattle.std.proofs.lemmas.Bool.Decides.{nat_tests}
 use Rattle.std.proofs.lemmas.List.{length-reverse}
+use Rattle.std.specs.List.{slice_get}
 use Rattle.text.specs.declared.Fault.{Fault}
+use Rattle.token.specs.declared.Kind.TheVariants.{Identifier}
 use Rattle.source.specs.declared.Ending.TheVariants.{Fails}
 use Rattle.item.specs.declared.hide_set.HideSet.{HideSet}
 use Rattle.item.specs.declared.table.TagTable.{TagTable}
@@ -21,7 +24,9 @@ use Rattle.steps.specs.declared.prepared.Call.{Call}
 use Rattle.steps.specs.declared.prepared.Handed.{Handed}
 use Rattle.steps.specs.declared.prepared.Prepared.{Prepared}
 use Rattle.steps.specs.declared.prepared.Prepared.TheVariants.{End, Hand, Replace}
-use Rattle.steps.specs.Handing.{handed_items, taken}
+use Rattle.steps.specs.declared.class.Name.{Name as NameAt}
+use Rattle.steps.specs.declared.prepared.Handed.TheVariants.{Front, Name, BuiltIn}
+use Rattle.steps.specs.Handing.{in_place, named_items, handed_items, taken}
 use Rattle.steps.specs.Steps.{State, Preparing, Failing, Falling, result_of, behind, moved}
 use Rattle.expansion.specs.States.{Moving}
 use Rattle.expansion.proofs.Added.{within}
@@ -99,3 +104,81 @@ module _ (ms : List Macro) (file : List ℕ) (n m line left : ℕ) (w run : List
 pub more_handed : (ms : List Macro) (file : List ℕ) (n : ℕ) (end : Ends) (o : Outcome Item) (is more js : List Item) (s u : State) → o ≡ prepend is (from ms file n end s) → from ms file n end s ≡ prepend more (from ms file n end u) → js ≡ is ++ more → o ≡ prepend js (from ms file n end u)
 more_handed ms file n end o is more js s u inv h e =
     inv ∙ ap (prepend is) h ∙ prepend_more is more (from ms file n end u) ∙ ap (λ k. prepend k (from ms file n end u)) (sym e)
+
+-- at most one token is handed on
+named_few : (ms : List Macro) (k : ℕ) (n : NameAt) → length (named_items ms k n) ≤ 1
+named_few ms k n =
+    elim (slice_get ms k) as (λ o. length (elim o as (λ _. List Item) [ None ↦ [] | Some m ↦ in_place ms n Identifier m.name ∷ [] ]) ≤ 1) [ None ↦ omega arith | Some m ↦ omega arith ]
+
+take_few : (ms : List Macro) (xs : List (Tagged HideSet)) → length (items_of ms (take 1 xs)) ≤ 1
+take_few ms [] = omega arith
+take_few ms (x ∷ xs) = omega arith
+
+handed_few : (ms : List Macro) (file : List ℕ) (xs : List (Tagged HideSet)) (h : Handed) → length (handed_items ms file xs h) ≤ 1
+handed_few ms file xs Front = take_few ms xs
+handed_few ms file xs (Name k n) = named_few ms k n
+handed_few ms file xs (BuiltIn b n) = omega arith
+
+-- one that is too long is the first of all
+long_first : (is more : List Item) → length is ≤ 1 → over is ≡ true → over (take 1 (is ++ more)) ≡ false → ⊥
+long_first [] more few big short = cc
+long_first (i ∷ []) more few big short = cc
+long_first (i ∷ j ∷ is) more few big short = omega arith
+
+done_some : (fits : Bool) (n : ℕ) → (not fits || ltb 0 n) ≡ true → fits ≡ true → 0 < n
+done_some true n h e = ltb-true 0 n h
+done_some false n h e = cc
+
+not_done : (fits : Bool) (n : ℕ) → (not fits || ltb 0 n) ≡ false → (fits ≡ true) × (n ≡ 0)
+not_done true n h = (refl, grind (arith, nat_tests))
+not_done false n h = cc
+
+no_items : (xs : List (Tagged HideSet)) → length xs ≡ 0 → xs ≡ []
+no_items [] h = refl
+no_items (x ∷ xs) h = absurd (omega arith)
+
+-- a step that hands on, with a table that was empty
+module _ (ms : List Macro) (file : List ℕ) (n : ℕ) (end : Ends) (s u : State) (args : List (List Item)) (p : Prepared) (h : Handed) (step : Preparing ms file end s u args (Ok p)) (hands : p ≡ Hand h) (all : Outcome Item) (inv : all ≡ from ms file n end s) where
+  module _ (old xs w run : List (Tagged HideSet)) (fits done : Bool) (none : old ≡ []) (room : fits ≡ not (over (items_of ms old ++ handed_items ms file (u.w ++ u.run) h))) (moves : items_of ms xs ≡ items_of ms old ++ cond fits (handed_items ms file (u.w ++ u.run) h) []) (drops : fits ≡ true → Dropped (taken h) u.w u.run w run) (ends : done ≡ (not fits || ltb 0 (length xs))) where
+    abbrev is : List Item
+    is = handed_items ms file (u.w ++ u.run) h
+
+    holds : fits ≡ true → items_of ms xs ≡ is
+    holds t = moves ∙ (λ j. items_of ms (none j) ++ cond (t j) is [])
+
+    goes_on : fits ≡ true → all ≡ prepend (items_of ms xs) (from ms file n end (record { left = u.left; w = w; run = run }))
+    goes_on t =
+        inv ∙ step_handed ms file n end s u args p h w run step hands (drops t) ∙ ap (λ k. prepend k (from ms file n end (record { left = u.left; w = w; run = run }))) (sym (holds t))
+
+    few_held : fits ≡ true → length xs ≤ 1
+    few_held t = omega (arith, handed_few ms file (u.w ++ u.run) h, ap length (holds t), items_length ms xs)
+
+    too_long : fits ≡ false → over (take 1 all.items) ≡ false → ⊥
+    too_long t short =
+        let v = behind u (taken h) u.left in
+        let steps = inv ∙ step_handed ms file n end s u args p h v.w v.run step hands (record { first = refl; then = refl }) in
+        let big : over is ≡ true = ap (λ k. over (items_of ms k ++ is)) (sym none) ∙ not-false _ (sym room ∙ t) in
+        long_first is (from ms file n end v).items (handed_few ms file (u.w ++ u.run) h) big (ap (λ o. over (take 1 o.items)) (sym steps) ∙ short)
+
+    pub advanced : done ≡ true → over (take 1 all.items) ≡ false → (all ≡ prepend (items_of ms xs) (from ms file n end (record { left = u.left; w = w; run = run }))) × (length xs ≡ 1)
+    advanced t short =
+        elim (cases_Bool fits) [
+          | inl e ↦ (goes_on e, omega (arith, few_held e, done_some fits (length xs) (sym ends ∙ t) e))
+          | inr e ↦ absurd (too_long e short)
+        ]
+
+    -- nothing was handed on
+    pub still : done ≡ false → (all ≡ from ms file n end (record { left = u.left; w = w; run = run })) × (xs ≡ [])
+    still t =
+        let both = not_done fits (length xs) (sym ends ∙ t) in
+        let nothing = no_items xs both.1 in
+        (goes_on both.0 ∙ ap (λ k. prepend (items_of ms k) (from ms file n end (record { left = u.left; w = w; run = run }))) nothing, nothing)
+
+    pub still_dropped : done ≡ false → Dropped (taken h) u.w u.run w run
+    still_dropped t = drops (not_done fits (length xs) (sym ends ∙ t)).0
+
+-- what is left falls where something is handed on
+pub size_handed : (s t : State) (p : Prepared) (h : Handed) (w run : List (Tagged HideSet)) → Falling s t (Ok p) → p ≡ Hand h → Dropped (taken h) t.w t.run w run → (t.left ≤ s.left) × (length w + length run < length s.w + length s.run)
+size_handed s t p h w run g e d =
+    let k = subst (λ q. Falling s t (Ok q)) e g in
+    (k.0, omega (arith, k.1, ap length d.first, ap length d.then))

@@ -1,4 +1,5 @@
 pub mod Added
+pub mod Advanced
 pub mod Building
 pub mod Expanding
 pub mod Falling

@@ -1,12 +1,12 @@
 -- Results and expansions, as the code makes them. Assumes nothing.
-use Rattle.std.specs.Prelude.{◌≡◌, ℕ, ◌≤◌, false, List, [], length, Some, None, Ok, Err, Option, Result}
+use Rattle.std.specs.Prelude.{◌≡◌, ℕ, ◌≤◌, false, List, [], length, take, Some, None, Ok, Err, Option, Result}
 use Rattle.text.specs.declared.Fault.{Fault}
 use Rattle.source.specs.declared.Ending.TheVariants.{Whole, Fails}
 use Rattle.item.specs.declared.hide_set.HideSet.{HideSet}
 use Rattle.item.specs.Tables.{held}
 use Rattle.item.specs.Tagged.{Tagged}
 use Rattle.definition.specs.Definitions.{Macro}
-use Rattle.replacement.specs.Items.{Item, End as Ends, Outcome, giving, ◌then◌}
+use Rattle.replacement.specs.Items.{Item, End as Ends, Outcome, giving, ◌then◌, over}
 use Rattle.replacement.specs.Joining.{Piece}
 use Rattle.replacement.specs.Laws.{expanding}
 use Rattle.replacement.specs.Meaning.{items_of, end_of}
@@ -63,13 +63,22 @@ abbrev pub handed_on : Expansion → List (Tagged HideSet)
 handed_on x = held x.handed
 
 -- the expansion from a state on, with 16 levels of arguments
-abbrev pub expanding_from : List Macro → List ℕ → Ends → State → Outcome Item
+unfoldable pub expanding_from : List Macro → List ℕ → Ends → State → Outcome Item
 expanding_from ms file end s = expanding ms file 16 end s.left (items_of ms s.w) (items_of ms s.run)
 
+-- the first token of an outcome is no longer than a table allows
+abbrev pub Short : Outcome Item → Type 0
+Short o = over (take 1 o.items) ≡ false
+
 -- What an answer says of the expansion from the state before it, with the state behind it: its first token is handed on,
--- or it has no token and ends so.
+-- where a table may hold that, or it has no token and ends so.
 abbrev pub Advancing : List Macro → List ℕ → Ends → State → State → List (Tagged HideSet) → Next → Type 0
 Advancing ms file end s t xs Token =
-    (expanding_from ms file end s ≡ (giving (items_of ms xs) t.left then (λ n. expanding_from ms file end (record { left = n; w = t.w; run = t.run })))) × (length xs ≡ 1)
+    Short (expanding_from ms file end s) → (expanding_from ms file end s ≡ (giving (items_of ms xs) t.left then (λ n. expanding_from ms file end (record { left = n; w = t.w; run = t.run })))) × (length xs ≡ 1)
 Advancing ms file end s t xs (End e) =
     ((expanding_from ms file end s).items ≡ []) × ((expanding_from ms file end s).ending ≡ end_of e) × (e ≡ Whole → (expanding_from ms file end s).left ≡ t.left)
+
+-- a fault ends the expansion
+abbrev pub next_of : Result Next Fault → Next
+next_of (Ok n) = n
+next_of (Err f) = End (Fails f)

@@ -1,18 +1,19 @@
 // A run is expanded here.
-ghost use Rattle.std.specs.Prelude.{◌≡◌, [], IfOk};
+ghost use Rattle.std.specs.Prelude.{◌≡◌, not, ◌||◌, [], length, IfOk, nat_lt};
 ghost use Rattle.std.specs.List.{slice_get};
 ghost use Rattle.std.specs.Option.{option_map};
 ghost use Rattle.token.specs.Tables.{referred};
+ghost use Rattle.item.specs.Tables.{held};
 ghost use Rattle.replacement.specs.Meaning.{end_of};
 ghost use Rattle.invocation.specs.Fronts.{waiting};
 ghost use Rattle.steps.specs.Contexts.{macros, file_of};
-ghost use Rattle.expansion.specs.States.{state_of, handed_on, Advancing};
+ghost use Rattle.expansion.specs.States.{state_of, handed_on, Advancing, next_of};
 
 use crate::build::replace;
 use crate::expansion::Expansion;
 use crate::level::Level;
 use invocation::Run;
-use item::TagTable;
+use item::{HideSet, TagTable};
 use source::Ending;
 use std::alloc::{AllocError, Global};
 use steps::{Context, Prepared, hand_on, prepare};
@@ -58,7 +59,10 @@ impl Expansion {
         }
     }
 
-    fn advance<R: Run>(&mut self, context: Context<'_>, run: &mut R) -> Result<Next, Fault> {
+    fn advance<R: Run>(&mut self, context: Context<'_>, run: &mut R) -> Result<Next, Fault>
+        ensures answer { Advancing (macros context.entry) (file_of context.entry) (end_of (R.Run.end run.old)) (state_of self.old (R.Run.rest run.old)) (state_of self.new (R.Run.rest run.new)) (handed_on self.new) (next_of result) }
+        ensures same { R.Run.end run.new ≡ R.Run.end run.old }
+    {
         self.handed.clear();
         loop {
             match prepare(
@@ -70,7 +74,7 @@ impl Expansion {
             )? {
                 Prepared::End => return Ok(Next::End(run.ending())),
                 Prepared::Hand(handed) => {
-                    hand_on(
+                    let fits = hand_on(
                         context,
                         handed,
                         &mut self.level.w,
@@ -78,7 +82,9 @@ impl Expansion {
                         &mut self.level.spelling,
                         &mut self.handed,
                     );
-                    return Ok(Next::Token);
+                    if is_done(fits, &self.handed) {
+                        return Ok(Next::Token);
+                    }
                 }
                 Prepared::Replace(call) => {
                     self.left = replace(
@@ -100,4 +106,11 @@ impl Expansion {
         let item = self.handed.view().get(0)?;
         Some(item.token)
     }
+}
+
+// A token has been handed on, or is too long to be.
+fn is_done(fits: bool, handed: &TagTable<HideSet>) -> bool
+    ensures { result ≡ (not fits || nat_lt 0 (length (held handed.now))) }
+{
+    !fits || handed.view().len() > 0
 }

@@ -184,9 +184,9 @@ build-returns-in_err-add_part-clause-pieces g c =
     let all : c.len.result ≡ length args = c.len.ensures ms ∙ ap (λ a. length (arguments_in ms a)) inv.3 in
     let p = c.match-part.part in
     let is = items_of ms (held c.match-part.level.expanded) in
-    let is-part : p ≡ c.part_of-part.result = elim c.match-part.branch [ build-in-Expanded+in_ok-left w ↦ w.part-is | build-in_default-part w ↦ w.part-is ] in
+    let is-part : p ≡ c.part_of-part.result = elim c.match-part.branch [ build-in-Expanded+in_ok-left w ↦ w.part-is ∙ sym w.in-Expanded.is | build-in_default-part w ↦ w.part-is ] in
     let ready : Ready e line args is c.loop-token.left c.match-part.left p = elim c.match-part.branch [
-      | build-in-Expanded+in_ok-left w ↦ ready_expanded e line args is c.loop-token.left c.match-part.left p w.in-Expanded.index (w.part-is ∙ w.in-Expanded.is) (sym (argument_same ms file (length c.loop-token.below) (length c.args.below.now) line c.loop-token.left w.in-Expanded.index (items_of ms (shown w.get-in-Expanded.result)) args (arguments_in ms c.loop-token.level.arguments) inv.4 (w.get-in-Expanded.ensures ms) (ap (arguments_in ms) inv.3)) ∙ w.in_ok-left.ensures ∙ (λ j. giving (items_of ms (held ((sym w.level-is j).expanded))) (sym w.left-is j)))
+      | build-in-Expanded+in_ok-left w ↦ ready_expanded e line args is c.loop-token.left c.match-part.left p w.in-Expanded.index w.part-is (sym (argument_same ms file (length c.loop-token.below) (length c.args.below.now) line c.loop-token.left w.in-Expanded.index (items_of ms (shown w.get-in-Expanded.result)) args (arguments_in ms c.loop-token.level.arguments) inv.4 (w.get-in-Expanded.ensures ms) (ap (arguments_in ms) inv.3)) ∙ w.in_ok-left.ensures ∙ (λ j. giving (items_of ms (held ((sym w.level-is j).expanded))) (sym w.left-is j)))
       | build-in_default-part w ↦ ready_other e line args is c.loop-token.left c.match-part.left p (λ k h. w.in_default-part.not-Expanded k (sym w.part-is ∙ h)) w.left-is
     ] in
     let arguments : c.match-part.level.arguments ≡ c.loop-token.level.arguments = elim c.match-part.branch [ build-in-Expanded+in_ok-left w ↦ ap (λ l. l.arguments) w.level-is | build-in_default-part w ↦ ap (λ l. l.arguments) w.level-is ] in
@@ -214,9 +214,9 @@ build-loop-token-preserved g c =
     let all : c.len.result ≡ length args = c.len.ensures ms ∙ ap (λ a. length (arguments_in ms a)) inv.3 in
     let p = c.match-part.part in
     let is = items_of ms (held c.match-part.level.expanded) in
-    let is-part : p ≡ c.part_of-part.result = elim c.match-part.branch [ build-in-Expanded+in_ok-left w ↦ w.part-is | build-in_default-part w ↦ w.part-is ] in
+    let is-part : p ≡ c.part_of-part.result = elim c.match-part.branch [ build-in-Expanded+in_ok-left w ↦ w.part-is ∙ sym w.in-Expanded.is | build-in_default-part w ↦ w.part-is ] in
     let ready : Ready e line args is c.loop-token.left c.match-part.left p = elim c.match-part.branch [
-      | build-in-Expanded+in_ok-left w ↦ ready_expanded e line args is c.loop-token.left c.match-part.left p w.in-Expanded.index (w.part-is ∙ w.in-Expanded.is) (sym (argument_same ms file (length c.loop-token.below) (length c.args.below.now) line c.loop-token.left w.in-Expanded.index (items_of ms (shown w.get-in-Expanded.result)) args (arguments_in ms c.loop-token.level.arguments) inv.4 (w.get-in-Expanded.ensures ms) (ap (arguments_in ms) inv.3)) ∙ w.in_ok-left.ensures ∙ (λ j. giving (items_of ms (held ((sym w.level-is j).expanded))) (sym w.left-is j)))
+      | build-in-Expanded+in_ok-left w ↦ ready_expanded e line args is c.loop-token.left c.match-part.left p w.in-Expanded.index w.part-is (sym (argument_same ms file (length c.loop-token.below) (length c.args.below.now) line c.loop-token.left w.in-Expanded.index (items_of ms (shown w.get-in-Expanded.result)) args (arguments_in ms c.loop-token.level.arguments) inv.4 (w.get-in-Expanded.ensures ms) (ap (arguments_in ms) inv.3)) ∙ w.in_ok-left.ensures ∙ (λ j. giving (items_of ms (held ((sym w.level-is j).expanded))) (sym w.left-is j)))
       | build-in_default-part w ↦ ready_other e line args is c.loop-token.left c.match-part.left p (λ k h. w.in_default-part.not-Expanded k (sym w.part-is ∙ h)) w.left-is
     ] in
     let arguments : c.match-part.level.arguments ≡ c.loop-token.level.arguments = elim c.match-part.branch [ build-in-Expanded+in_ok-left w ↦ ap (λ l. l.arguments) w.level-is | build-in_default-part w ↦ ap (λ l. l.arguments) w.level-is ] in
@@ -229,7 +229,7 @@ build-loop-token-preserved g c =
       c.in_ok-add_part.ensures.sized,
       w ∙ inv.2,
       arguments ∙ inv.3,
-      c.match-part.auto.below
+      c.match-part.auto.below ∙ inv.4
     )
 
 pub build-returns-clause-pieces : goal.build-returns-clause-pieces
