@@ -19,7 +19,7 @@ use Rattle.steps.specs.Handing.{handed_items, taken}
 use Rattle.steps.specs.Steps.{State, Preparing, result_of}
 use Rattle.expansion.specs.declared.next.Next.TheVariants.{Token, End}
 use Rattle.expansion.specs.States.{expanding_from, Advancing, Moving}
-use Rattle.expansion.proofs.Expanding.{step_ended, step_replaced, step_unplaced, step_failed, advanced, still}
+use Rattle.expansion.proofs.Expanding.{step_ended, step_replaced, step_unplaced, step_failed, advanced, still, not_done}
 
 module _ (ms : List Macro) (file : List ℕ) (end : Ends) (start s u : State) (args : List (List Item)) (inv : expanding_from ms file end start ≡ expanding_from ms file end s) where
   pub ends_run : (p : Prepared) → Preparing ms file end s u args (Ok p) → p ≡ Ended → (e : Ending) → end ≡ end_of e → (t : State) (xs : List (Tagged HideSet)) → t.left ≡ u.left → Advancing ms file end start t xs (End e)
@@ -58,3 +58,6 @@ module _ (ms : List Macro) (file : List ℕ) (end : Ends) (start s u : State) (a
     unfolding expanding_from
     goes_on d =
         still ms file 16 end s u args p h step is (expanding_from ms file end start) inv old xs w run fits done none room moves drops ends d
+
+    pub still_done : done ≡ false → Dropped (taken h) u.w u.run w run
+    still_done d = drops (not_done fits (length xs) (sym ends ∙ d)).0

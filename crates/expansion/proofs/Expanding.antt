@@ -129,7 +129,7 @@ done_some : (fits : Bool) (n : ℕ) → (not fits || ltb 0 n) ≡ true → fits 
 done_some true n h e = ltb-true 0 n h
 done_some false n h e = cc
 
-not_done : (fits : Bool) (n : ℕ) → (not fits || ltb 0 n) ≡ false → (fits ≡ true) × (n ≡ 0)
+pub not_done : (fits : Bool) (n : ℕ) → (not fits || ltb 0 n) ≡ false → (fits ≡ true) × (n ≡ 0)
 not_done true n h = (refl, grind (arith, nat_tests))
 not_done false n h = cc
 
@@ -173,9 +173,6 @@ module _ (ms : List Macro) (file : List ℕ) (n : ℕ) (end : Ends) (s u : State
         let both = not_done fits (length xs) (sym ends ∙ t) in
         let nothing = no_items xs both.1 in
         (goes_on both.0 ∙ ap (λ k. prepend (items_of ms k) (from ms file n end (record { left = u.left; w = w; run = run }))) nothing, nothing)
-
-    pub still_dropped : done ≡ false → Dropped (taken h) u.w u.run w run
-    still_dropped t = drops (not_done fits (length xs) (sym ends ∙ t)).0
 
 -- what is left falls where something is handed on
 pub size_handed : (s t : State) (p : Prepared) (h : Handed) (w run : List (Tagged HideSet)) → Falling s t (Ok p) → p ≡ Hand h → Dropped (taken h) t.w t.run w run → (t.left ≤ s.left) × (length w + length run < length s.w + length s.run)
