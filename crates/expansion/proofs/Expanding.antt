@@ -1,5 +1,5 @@
 -- What the steps of the code say of an expansion. Assumes nothing.
-use Rattle.std.proofs.Common.{◌≡◌, ℕ, suc, ◌+◌, Bool, true, false, cond, not, ◌||◌, ltb, ◌<◌, ◌≤◌, ◌-◌, List, [], ◌∷◌, ◌++◌, length, take, drop, Some, None, Ok, Err, Result, inl, inr, sym, refl, ap, ◌∙◌, subst, arith, length-drop}
+use Rattle.std.proofs.Common.{◌≡◌, ℕ, suc, ◌+◌, Bool, true, false, cond, not, ◌||◌, ltb, ◌<◌, ◌≤◌, ◌-◌, List, [], ◌∷◌, ◌++◌, length, take, Some, None, Ok, Err, inl, inr, sym, refl, ap, ◌∙◌, subst, arith, length-drop}
 use Rattle.std.proofs.lemmas.Bool.{cases_Bool, not-true, not-false, ltb-true}
 use Rattle.std.proofs.lemmas.Bool.Decides.{nat_tests}
 use Rattle.std.proofs.lemmas.List.{length-reverse}
@@ -28,7 +28,6 @@ use Rattle.steps.specs.declared.class.Name.{Name as NameAt}
 use Rattle.steps.specs.declared.prepared.Handed.TheVariants.{Front, Name, BuiltIn}
 use Rattle.steps.specs.Handing.{in_place, named_items, handed_items, taken}
 use Rattle.steps.specs.Steps.{State, Preparing, Failing, Falling, result_of, behind, moved}
-use Rattle.expansion.specs.States.{Moving}
 use Rattle.expansion.proofs.Added.{within}
 use Rattle.expansion.proofs.Limits.{limited_whole, limited_fault, limited-over}
 use Rattle.expansion.proofs.Turning.{prepend, prepend_more, from, ended, handed, replaced, failed, failed_result}

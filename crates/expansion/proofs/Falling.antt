@@ -1,5 +1,5 @@
 -- Every step takes a token away or counts a replacement. Assumes nothing.
-use Rattle.std.proofs.Common.{◌≡◌, ℕ, suc, ◌+◌, ◌*◌, ◌<◌, ◌≤◌, suc-mul, arith}
+use Rattle.std.proofs.Common.{ℕ, suc, ◌+◌, ◌*◌, ◌<◌, ◌≤◌, suc-mul, arith}
 use Rattle.std.proofs.lemmas.Nat.{mul-le}
 
 -- what is left: each replacement weighs more than W and the run can hold

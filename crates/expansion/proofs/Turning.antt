@@ -1,5 +1,5 @@
 -- Expansion step by step. Assumes nothing.
-use Rattle.std.proofs.Common.{◌≡◌, ℕ, ◌-◌, List, [], ◌∷◌, ◌++◌, length, drop, sym, refl, ap, ◌∙◌}
+use Rattle.std.proofs.Common.{◌≡◌, ℕ, List, [], ◌∷◌, ◌++◌, sym, refl, ap, ◌∙◌}
 use Rattle.text.specs.declared.Fault.{Fault}
 use Rattle.item.specs.declared.hide_set.HideSet.{HideSet}
 use Rattle.item.specs.Tagged.{Tagged}

@@ -1,4 +1,4 @@
-use Rattle.std.proofs.Common.{◌≡◌, false, suc, ◌+◌, true, cond, [], ◌++◌, length, drop, reverse, sym, refl, ap, ◌∙◌, arith, rules}
+use Rattle.std.proofs.Common.{◌≡◌, false, suc, ◌+◌, true, cond, [], ◌++◌, length, drop, reverse, sym, refl, ap, ◌∙◌, arith}
 use Rattle.std.proofs.lemmas.Bool.{not-false}
 use Rattle.std.proofs.lemmas.Result.{err_from_is_err_and}
 use Rattle.std.specs.List.{slice_get}
@@ -223,13 +223,12 @@ build-loop-token-preserved g c =
     let pieces : c.match-part.level.pieces ≡ c.loop-token.level.pieces = elim c.match-part.branch [ build-in-Expanded+in_ok-left w ↦ ap (λ l. l.pieces) w.level-is | build-in_default-part w ↦ ap (λ l. l.pieces) w.level-is ] in
     let same = added_same line args (arguments_in ms c.match-part.level.arguments) is t p qs (pieces_of ms (held c.match-part.level.pieces)) c.match-part.left (ap (arguments_in ms) (arguments ∙ inv.3)) (ap (λ x. pieces_of ms (held x)) pieces) in
     let w : c.match-part.level.w ≡ c.loop-token.level.w = elim c.match-part.branch [ build-in-Expanded+in_ok-left w ↦ ap (λ l. l.w) w.level-is | build-in_default-part w ↦ ap (λ l. l.w) w.level-is ] in
-    let rest = c.part-rest.ensures ∙ take_behind (view_tokens c.loop-token.rest) c.width.result c.len-in-Some-get.result c.len-in-Some-get.ensures ∙ ap (λ n. drop n (view_tokens c.loop-token.rest)) c.width.ensures in
-    (
+    let rest = c.part-rest.ensures ∙ take_behind (view_tokens c.loop-token.rest) c.width.result c.len-in-Some-get.result c.len-in-Some-get.ensures ∙ ap (λ n. drop n (view_tokens c.loop-token.rest)) c.width.ensures in (
       built_more e line ps args b qs c.loop-token.left (view_tokens c.loop-token.rest) c.loop-token.joins inv.0 t u c.len.result p c.in-Some-get.ensures c.get-in-Some-get.ensures all (is-part ∙ c.part_of-part.ensures) is c.match-part.left ready (pieces_of ms (held c.add_part.new.pieces)) c.is_join-joins.result (view_tokens c.part-rest.result) (same ∙ c.in_ok-add_part.ensures.added ms c.match-part.left) c.is_join-joins.ensures rest,
       c.in_ok-add_part.ensures.sized,
       w ∙ inv.2,
       arguments ∙ inv.3,
-      c.match-part.auto.below ∙ inv.4
+      c.match-part.auto.below ∙ inv.4,
     )
 
 pub build-returns-clause-pieces : goal.build-returns-clause-pieces

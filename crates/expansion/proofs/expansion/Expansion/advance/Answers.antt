@@ -1,7 +1,7 @@
-use Rattle.std.proofs.Common.{◌≡◌, ◌+◌, [], length, Ok, Err, subst, sym, refl, ap, ◌∙◌, arith}
+use Rattle.std.proofs.Common.{◌≡◌, ◌+◌, length, Ok, Err, subst, sym, refl, ap, ◌∙◌, arith}
 use Rattle.std.proofs.lemmas.Result.{err_from_is_err_and}
 use Rattle.item.specs.Tables.{held}
-use Rattle.replacement.specs.Meaning.{items_of, end_of}
+use Rattle.replacement.specs.Meaning.{end_of}
 use Rattle.invocation.specs.Calls.{arguments_in}
 use Rattle.invocation.specs.Fronts.{waiting}
 use Rattle.steps.specs.Contexts.{macros, file_of}
@@ -135,10 +135,9 @@ loop-run-preserved g c =
     let step = subst (λ e. Preparing ms file (end_of e) s u args (Ok p)) inv.2 c.in_ok-prepare.ensures.step in
     let below = c.as_mut_slice in
     let deep : length below.result.now ≡ 16 = omega (arith, ap length below.ensures.value, c.loop-run.self.deep, c.loop-run.self.below.ok.0) in
-    let falls = falls_replaced s u p c.in-Replace.call c.in_ok-prepare.ensures.falls c.in-Replace.is in
-    (
+    let falls = falls_replaced s u p c.in-Replace.call c.in_ok-prepare.ensures.falls c.in-Replace.is in (
       goes_before ms file end start s u args inv.0 p c.in-Replace.call step c.in-Replace.is (length below.result.now) deep (waiting c.replace.new.level.w) c.in_ok-self-in-Replace.field-0 c.in_ok-self-in-Replace.ensures.result,
       inv.1,
       c.in_ok-prepare.ensures.same ∙ inv.2,
-      omega (arith, falls.1, inv.3)
+      omega (arith, falls.1, inv.3),
     )

@@ -1,4 +1,4 @@
-use Rattle.std.proofs.Common.{◌≡◌, ℕ, ◌≤◌, vec_len, vec_capacity}
+use Rattle.std.proofs.Common.{◌≡◌, ◌≤◌, vec_len, vec_capacity}
 use Rattle.expansion.proofs.expansion.Expansion.new.Given as goal
 
 abbrev pub invariant-loop : goal.invariant-loop
