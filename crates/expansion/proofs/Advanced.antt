@@ -1,5 +1,5 @@
 -- The expansion of a run, token by token, with 16 levels of arguments. Assumes nothing.
-use Rattle.std.proofs.Common.{◌≡◌, ℕ, sym, Bool, true, false, cond, not, ◌||◌, ltb, List, [], ◌++◌, length, Ok, Err, ap, ◌∙◌}
+use Rattle.std.proofs.Common.{◌≡◌, ℕ, sym, Bool, true, false, cond, not, ltb, List, [], ◌++◌, length, Ok, Err, ap, ◌∙◌}
 use Rattle.text.specs.declared.Fault.{Fault}
 use Rattle.source.specs.declared.Ending.{Ending}
 use Rattle.source.specs.declared.Ending.TheVariants.{Fails}
@@ -19,20 +19,20 @@ use Rattle.steps.specs.Handing.{handed_items, taken}
 use Rattle.steps.specs.Steps.{State, Preparing, result_of}
 use Rattle.expansion.specs.declared.next.Next.TheVariants.{Token, End}
 use Rattle.expansion.specs.States.{expanding_from, Advancing, Moving}
-use Rattle.expansion.proofs.Expanding.{step_ended, step_replaced, step_unplaced, step_failed, advanced, still, not_done}
+use Rattle.expansion.proofs.Expanding.{step_ended, step_replaced, step_unplaced, step_failed, too_long, advanced, still}
 
 module _ (ms : List Macro) (file : List ℕ) (end : Ends) (start s u : State) (args : List (List Item)) (inv : expanding_from ms file end start ≡ expanding_from ms file end s) where
   pub ends_run : (p : Prepared) → Preparing ms file end s u args (Ok p) → p ≡ Ended → (e : Ending) → end ≡ end_of e → (t : State) (xs : List (Tagged HideSet)) → t.left ≡ u.left → Advancing ms file end start t xs (End e)
   unfolding expanding_from
   ends_run p step is e ending t xs left =
       let k = inv ∙ step_ended ms file 16 end s u args p step is in
-      (ap (λ o. o.items) k, ap (λ o. o.ending) k ∙ ending, λ z. ap (λ o. o.left) k ∙ sym left)
+      λ _. (ap (λ o. o.items) k, ap (λ o. o.ending) k ∙ ending, λ z. ap (λ o. o.left) k ∙ sym left)
 
   pub fails_run : (f : Fault) → Preparing ms file end s u args (Err f) → (t : State) (xs : List (Tagged HideSet)) → Advancing ms file end start t xs (End (Fails f))
   unfolding expanding_from
   fails_run f step t xs =
       let k = step_failed ms file 16 end s u args f step in
-      (ap (λ o. o.items) inv ∙ k.0, ap (λ o. o.ending) inv ∙ k.1, λ z. cc)
+      λ _. (ap (λ o. o.items) inv ∙ k.0, ap (λ o. o.ending) inv ∙ k.1, λ z. cc)
 
   -- a result
   module _ (p : Prepared) (c : Call) (step : Preparing ms file end s u args (Ok p)) (is : p ≡ Replace c) (m : ℕ) (deep : m ≡ 16) where
@@ -45,19 +45,22 @@ module _ (ms : List Macro) (file : List ℕ) (end : Ends) (start s u : State) (a
     unfolding expanding_from
     fails_before w f h t xs =
         let k = step_unplaced ms file 16 end s u args p c m f step is deep (h (expanding ms file 16 end) (items_of ms u.run)) in
-        (ap (λ o. o.items) inv ∙ k.0, ap (λ o. o.ending) inv ∙ k.1, λ z. cc)
+        λ _. (ap (λ o. o.items) inv ∙ k.0, ap (λ o. o.ending) inv ∙ k.1, λ z. cc)
 
   -- a token
-  module _ (p : Prepared) (h : Handed) (step : Preparing ms file end s u args (Ok p)) (is : p ≡ Hand h) (old xs w run : List (Tagged HideSet)) (fits done : Bool) (none : old ≡ []) (room : fits ≡ not (over (items_of ms old ++ handed_items ms file (u.w ++ u.run) h))) (moves : items_of ms xs ≡ items_of ms old ++ cond fits (handed_items ms file (u.w ++ u.run) h) []) (drops : fits ≡ true → Dropped (taken h) u.w u.run w run) (ends : done ≡ (not fits || ltb 0 (length xs))) where
-    pub hands_on : done ≡ true → Advancing ms file end start (record { left = u.left; w = w; run = run }) xs Token
+  module _ (p : Prepared) (h : Handed) (step : Preparing ms file end s u args (Ok p)) (is : p ≡ Hand h) (old : List (Tagged HideSet)) (fits : Bool) (none : old ≡ []) where
+    pub too_long_run : fits ≡ not (over (items_of ms old ++ handed_items ms file (u.w ++ u.run) h)) → fits ≡ false → (f : Fault) (t : State) (xs : List (Tagged HideSet)) → Advancing ms file end start t xs (End (Fails f))
     unfolding expanding_from
-    hands_on d short =
-        advanced ms file 16 end s u args p h step is (expanding_from ms file end start) inv old xs w run fits done none room moves drops ends d short
+    too_long_run room long f t xs short =
+        absurd (too_long ms file 16 end s u args p h step is (expanding_from ms file end start) inv old fits none room long short)
 
-    pub goes_on : done ≡ false → (expanding_from ms file end start ≡ expanding_from ms file end (record { left = u.left; w = w; run = run })) × (xs ≡ [])
-    unfolding expanding_from
-    goes_on d =
-        still ms file 16 end s u args p h step is (expanding_from ms file end start) inv old xs w run fits done none room moves drops ends d
+    module _ (xs w run : List (Tagged HideSet)) (some : Bool) (moves : items_of ms xs ≡ items_of ms old ++ cond fits (handed_items ms file (u.w ++ u.run) h) []) (yes : fits ≡ true) (drops : Dropped (taken h) u.w u.run w run) (has : some ≡ ltb 0 (length xs)) where
+      pub hands_on : some ≡ true → Advancing ms file end start (record { left = u.left; w = w; run = run }) xs Token
+      unfolding expanding_from
+      hands_on d =
+          advanced ms file 16 end s u args p h step is (expanding_from ms file end start) inv old xs w run fits none moves yes drops (sym has ∙ d)
 
-    pub still_done : done ≡ false → Dropped (taken h) u.w u.run w run
-    still_done d = drops (not_done fits (length xs) (sym ends ∙ d)).0
+      pub goes_on : some ≡ false → (expanding_from ms file end start ≡ expanding_from ms file end (record { left = u.left; w = w; run = run })) × (xs ≡ [])
+      unfolding expanding_from
+      goes_on d =
+          still ms file 16 end s u args p h step is (expanding_from ms file end start) inv old xs w run fits none moves yes drops (sym has ∙ d)

@@ -1,6 +1,6 @@
 -- What the steps of the code say of an expansion. Assumes nothing.
-use Rattle.std.proofs.Common.{◌≡◌, ℕ, suc, ◌+◌, Bool, true, false, cond, not, ◌||◌, ltb, ◌<◌, ◌≤◌, ◌-◌, List, [], ◌∷◌, ◌++◌, length, take, Some, None, Ok, Err, inl, inr, sym, refl, ap, ◌∙◌, subst, arith, length-drop}
-use Rattle.std.proofs.lemmas.Bool.{cases_Bool, not-true, not-false, ltb-true}
+use Rattle.std.proofs.Common.{◌≡◌, ℕ, suc, ◌+◌, Bool, true, false, cond, not, ◌||◌, ltb, ◌<◌, ◌≤◌, ◌-◌, List, [], ◌∷◌, ◌++◌, length, take, Some, None, Ok, Err, sym, refl, ap, ◌∙◌, subst, arith, length-drop}
+use Rattle.std.proofs.lemmas.Bool.{not-true, not-false, ltb-true}
 use Rattle.std.proofs.lemmas.Bool.Decides.{nat_tests}
 use Rattle.std.proofs.lemmas.List.{length-reverse}
 use Rattle.std.specs.List.{slice_get}
@@ -124,54 +124,41 @@ long_first [] more few big short = cc
 long_first (i ∷ []) more few big short = cc
 long_first (i ∷ j ∷ is) more few big short = omega arith
 
-done_some : (fits : Bool) (n : ℕ) → (not fits || ltb 0 n) ≡ true → fits ≡ true → 0 < n
-done_some true n h e = ltb-true 0 n h
-done_some false n h e = cc
-
-pub not_done : (fits : Bool) (n : ℕ) → (not fits || ltb 0 n) ≡ false → (fits ≡ true) × (n ≡ 0)
-not_done true n h = (refl, grind (arith, nat_tests))
-not_done false n h = cc
-
 no_items : (xs : List (Tagged HideSet)) → length xs ≡ 0 → xs ≡ []
 no_items [] h = refl
 no_items (x ∷ xs) h = absurd (omega arith)
 
 -- a step that hands on, with a table that was empty
 module _ (ms : List Macro) (file : List ℕ) (n : ℕ) (end : Ends) (s u : State) (args : List (List Item)) (p : Prepared) (h : Handed) (step : Preparing ms file end s u args (Ok p)) (hands : p ≡ Hand h) (all : Outcome Item) (inv : all ≡ from ms file n end s) where
-  module _ (old xs w run : List (Tagged HideSet)) (fits done : Bool) (none : old ≡ []) (room : fits ≡ not (over (items_of ms old ++ handed_items ms file (u.w ++ u.run) h))) (moves : items_of ms xs ≡ items_of ms old ++ cond fits (handed_items ms file (u.w ++ u.run) h) []) (drops : fits ≡ true → Dropped (taken h) u.w u.run w run) (ends : done ≡ (not fits || ltb 0 (length xs))) where
-    abbrev is : List Item
-    is = handed_items ms file (u.w ++ u.run) h
+  abbrev is : List Item
+  is = handed_items ms file (u.w ++ u.run) h
 
-    holds : fits ≡ true → items_of ms xs ≡ is
-    holds t = moves ∙ (λ j. items_of ms (none j) ++ cond (t j) is [])
+  -- no table holds a token that is too long
+  pub too_long : (old : List (Tagged HideSet)) (fits : Bool) → old ≡ [] → fits ≡ not (over (items_of ms old ++ is)) → fits ≡ false → over (take 1 all.items) ≡ false → ⊥
+  too_long old fits none room t short =
+      let v = behind u (taken h) u.left in
+      let steps = inv ∙ step_handed ms file n end s u args p h v.w v.run step hands (record { first = refl; then = refl }) in
+      let big : over is ≡ true = ap (λ k. over (items_of ms k ++ is)) (sym none) ∙ not-false _ (sym room ∙ t) in
+      long_first is (from ms file n end v).items (handed_few ms file (u.w ++ u.run) h) big (ap (λ o. over (take 1 o.items)) (sym steps) ∙ short)
 
-    goes_on : fits ≡ true → all ≡ prepend (items_of ms xs) (from ms file n end (record { left = u.left; w = w; run = run }))
-    goes_on t =
-        inv ∙ step_handed ms file n end s u args p h w run step hands (drops t) ∙ ap (λ k. prepend k (from ms file n end (record { left = u.left; w = w; run = run }))) (sym (holds t))
+  module _ (old xs w run : List (Tagged HideSet)) (fits : Bool) (none : old ≡ []) (moves : items_of ms xs ≡ items_of ms old ++ cond fits is []) (t : fits ≡ true) (drops : Dropped (taken h) u.w u.run w run) where
+    holds : items_of ms xs ≡ is
+    holds = moves ∙ (λ j. items_of ms (none j) ++ cond (t j) is [])
 
-    few_held : fits ≡ true → length xs ≤ 1
-    few_held t = omega (arith, handed_few ms file (u.w ++ u.run) h, ap length (holds t), items_length ms xs)
+    goes_on : all ≡ prepend (items_of ms xs) (from ms file n end (record { left = u.left; w = w; run = run }))
+    goes_on =
+        inv ∙ step_handed ms file n end s u args p h w run step hands drops ∙ ap (λ k. prepend k (from ms file n end (record { left = u.left; w = w; run = run }))) (sym holds)
 
-    too_long : fits ≡ false → over (take 1 all.items) ≡ false → ⊥
-    too_long t short =
-        let v = behind u (taken h) u.left in
-        let steps = inv ∙ step_handed ms file n end s u args p h v.w v.run step hands (record { first = refl; then = refl }) in
-        let big : over is ≡ true = ap (λ k. over (items_of ms k ++ is)) (sym none) ∙ not-false _ (sym room ∙ t) in
-        long_first is (from ms file n end v).items (handed_few ms file (u.w ++ u.run) h) big (ap (λ o. over (take 1 o.items)) (sym steps) ∙ short)
-
-    pub advanced : done ≡ true → over (take 1 all.items) ≡ false → (all ≡ prepend (items_of ms xs) (from ms file n end (record { left = u.left; w = w; run = run }))) × (length xs ≡ 1)
-    advanced t short =
-        elim (cases_Bool fits) [
-          | inl e ↦ (goes_on e, omega (arith, few_held e, done_some fits (length xs) (sym ends ∙ t) e))
-          | inr e ↦ absurd (too_long e short)
-        ]
+    pub advanced : ltb 0 (length xs) ≡ true → (all ≡ prepend (items_of ms xs) (from ms file n end (record { left = u.left; w = w; run = run }))) × (length xs ≡ 1)
+    advanced some =
+        (goes_on, omega (arith, handed_few ms file (u.w ++ u.run) h, ap length holds, items_length ms xs, ltb-true 0 (length xs) some))
 
     -- nothing was handed on
-    pub still : done ≡ false → (all ≡ from ms file n end (record { left = u.left; w = w; run = run })) × (xs ≡ [])
-    still t =
-        let both = not_done fits (length xs) (sym ends ∙ t) in
-        let nothing = no_items xs both.1 in
-        (goes_on both.0 ∙ ap (λ k. prepend (items_of ms k) (from ms file n end (record { left = u.left; w = w; run = run }))) nothing, nothing)
+    pub still : ltb 0 (length xs) ≡ false → (all ≡ from ms file n end (record { left = u.left; w = w; run = run })) × (xs ≡ [])
+    still some =
+        let few : length xs ≡ 0 = grind (arith, nat_tests) in
+        let nothing = no_items xs few in
+        (goes_on ∙ ap (λ k. prepend (items_of ms k) (from ms file n end (record { left = u.left; w = w; run = run }))) nothing, nothing)
 
 -- what is left falls where something is handed on
 pub size_handed : (s t : State) (p : Prepared) (h : Handed) (w run : List (Tagged HideSet)) → Falling s t (Ok p) → p ≡ Hand h → Dropped (taken h) t.w t.run w run → (t.left ≤ s.left) × (length w + length run < length s.w + length s.run)

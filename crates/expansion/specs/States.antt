@@ -71,12 +71,12 @@ abbrev pub Short : Outcome Item → Type 0
 Short o = over (take 1 o.items) ≡ false
 
 -- What an answer says of the expansion from the state before it, with the state behind it: its first token is handed on,
--- where a table may hold that, or it has no token and ends so.
+-- or it has no token and ends so. No table holds a first token that is too long, and a fault says so.
 abbrev pub Advancing : List Macro → List ℕ → Ends → State → State → List (Tagged HideSet) → Next → Type 0
 Advancing ms file end s t xs Token =
-    Short (expanding_from ms file end s) → (expanding_from ms file end s ≡ (giving (items_of ms xs) t.left then (λ n. expanding_from ms file end (record { left = n; w = t.w; run = t.run })))) × (length xs ≡ 1)
+    (expanding_from ms file end s ≡ (giving (items_of ms xs) t.left then (λ n. expanding_from ms file end (record { left = n; w = t.w; run = t.run })))) × (length xs ≡ 1)
 Advancing ms file end s t xs (End e) =
-    ((expanding_from ms file end s).items ≡ []) × ((expanding_from ms file end s).ending ≡ end_of e) × (e ≡ Whole → (expanding_from ms file end s).left ≡ t.left)
+    Short (expanding_from ms file end s) → ((expanding_from ms file end s).items ≡ []) × ((expanding_from ms file end s).ending ≡ end_of e) × (e ≡ Whole → (expanding_from ms file end s).left ≡ t.left)
 
 -- a fault ends the expansion
 abbrev pub next_of : Result Next Fault → Next

@@ -1,5 +1,5 @@
 // A run is expanded here.
-ghost use Rattle.std.specs.Prelude.{◌≡◌, not, ◌||◌, [], length, IfOk, nat_lt};
+ghost use Rattle.std.specs.Prelude.{◌≡◌, [], length, IfOk, nat_lt};
 ghost use Rattle.std.specs.List.{slice_get};
 ghost use Rattle.std.specs.Option.{option_map};
 ghost use Rattle.token.specs.Tables.{referred};
@@ -12,12 +12,13 @@ ghost use Rattle.expansion.specs.States.{state_of, handed_on, Advancing, next_of
 use crate::build::replace;
 use crate::expansion::Expansion;
 use crate::level::Level;
-use invocation::Run;
+use crate::pieces::fault_at;
+use invocation::{Run, first_waiting};
 use item::{HideSet, TagTable};
 use source::Ending;
 use std::alloc::{AllocError, Global};
-use steps::{Context, Prepared, hand_on, prepare};
-use text::Fault;
+use steps::{Context, Handed, Prepared, hand_on, prepare};
+use text::{Fault, FaultKind};
 use token::TokenRef;
 
 const LEVELS: usize = 16;
@@ -74,15 +75,18 @@ impl Expansion {
             )? {
                 Prepared::End => return Ok(Next::End(run.ending())),
                 Prepared::Hand(handed) => {
-                    let fits = hand_on(
+                    if !hand_on(
                         context,
                         handed,
                         &mut self.level.w,
                         run,
                         &mut self.level.spelling,
                         &mut self.handed,
-                    );
-                    if is_done(fits, &self.handed) {
+                    ) {
+                        let line = line_of(handed, &self.level.w, run);
+                        return Err(fault_at(FaultKind::ManyTokens, line));
+                    }
+                    if is_some(&self.handed) {
                         return Ok(Next::Token);
                     }
                 }
@@ -108,9 +112,33 @@ impl Expansion {
     }
 }
 
-// A token has been handed on, or is too long to be.
-fn is_done(fits: bool, handed: &TagTable<HideSet>) -> bool
-    ensures { result ≡ (not fits || nat_lt 0 (length (held handed.now))) }
+// Whether a table holds a token.
+fn is_some(table: &TagTable<HideSet>) -> bool
+    ensures { result ≡ nat_lt 0 (length (held table.now)) }
 {
-    !fits || handed.view().len() > 0
+    table.view().len() > 0
+}
+
+// The line of a token that is handed on.
+fn line_of<R: Run>(handed: Handed, w: &TagTable<HideSet>, run: &mut R) -> u32
+    ensures same { R.Run.end run.new ≡ R.Run.end run.old }
+{
+    match handed {
+        Handed::Front => front_line(w, run),
+        Handed::Name(_, name) => name.line,
+        Handed::BuiltIn(_, name) => name.line,
+    }
+}
+
+fn front_line<R: Run>(w: &TagTable<HideSet>, run: &mut R) -> u32
+    ensures same { R.Run.end run.new ≡ R.Run.end run.old }
+{
+    if let Some(item) = first_waiting(w) {
+        return item.token.line;
+    }
+    run.fill();
+    match run.first() {
+        Some(item) => item.token.line,
+        None => 0,
+    }
 }

@@ -7,7 +7,7 @@ use Rattle.invocation.specs.Fronts.{waiting}
 use Rattle.steps.specs.Contexts.{macros, file_of}
 use Rattle.steps.specs.Steps.{State, Preparing}
 use Rattle.expansion.specs.States.{state_of}
-use Rattle.expansion.proofs.Advanced.{ends_run, fails_run, fails_before, goes_before, hands_on, goes_on, still_done}
+use Rattle.expansion.proofs.Advanced.{ends_run, fails_run, fails_before, goes_before, hands_on, goes_on, too_long_run}
 use Rattle.expansion.proofs.Expanding.{size_handed, waiting_few, falls_replaced, falls_handed}
 use Rattle.expansion.proofs.Falling.{hand_falls, result_falls}
 use Rattle.expansion.proofs.expansion.Expansion.advance.Goals as goal
@@ -42,8 +42,8 @@ returns-in-End-clause-answer g c =
     let step = subst (λ e. Preparing ms file (end_of e) s u args (Ok p)) inv.2 c.in_ok-prepare.ensures.step in
     ends_run ms file end start s u args inv.0 p step c.in-End.is c.ending.result (ap end_of (sym (c.ending.ensures ∙ c.in_ok-prepare.ensures.same ∙ inv.2))) u (held c.loop-run.self.handed) refl
 
-pub returns-then-is_done-clause-answer : goal.returns-then-is_done-clause-answer
-returns-then-is_done-clause-answer g c =
+pub returns-then-is_some-clause-answer : goal.returns-then-is_some-clause-answer
+returns-then-is_some-clause-answer g c =
     let ms = macros c.args.context in
     let file = file_of c.args.context in
     let end = end_of (g.R.Run.end c.args.run.now) in
@@ -55,11 +55,12 @@ returns-then-is_done-clause-answer g c =
     let p = c.in_ok-prepare.field-0 in
     let step = subst (λ e. Preparing ms file (end_of e) s u args (Ok p)) inv.2 c.in_ok-prepare.ensures.step in
     let h = c.in-Hand.handed in
-    let fits = c.hand_on-fits in
-    hands_on ms file end start s u args inv.0 p h step c.in-Hand.is (held c.loop-run.self.handed) (held fits.new.to) (waiting fits.new.w) (g.R.Run.rest fits.new.run) fits.result c.is_done.result inv.1 fits.ensures.room fits.ensures.moved fits.ensures.dropped c.is_done.ensures c.if-is_done.true
+    let fits = c.hand_on in
+    let drops = fits.ensures.dropped c.if-not-hand_on.false in
+    hands_on ms file end start s u args inv.0 p h step c.in-Hand.is (held c.loop-run.self.handed) fits.result inv.1 (held fits.new.to) (waiting fits.new.w) (g.R.Run.rest fits.new.run) c.is_some.result fits.ensures.moved c.if-not-hand_on.false drops c.is_some.ensures c.if-is_some.true
 
-pub loop-run-smaller-else-is_done : goal.loop-run-smaller-else-is_done
-loop-run-smaller-else-is_done g c =
+pub loop-run-smaller-else-is_some : goal.loop-run-smaller-else-is_some
+loop-run-smaller-else-is_some g c =
     let ms = macros c.args.context in
     let file = file_of c.args.context in
     let end = end_of (g.R.Run.end c.args.run.now) in
@@ -71,13 +72,13 @@ loop-run-smaller-else-is_done g c =
     let p = c.in_ok-prepare.field-0 in
     let step = subst (λ e. Preparing ms file (end_of e) s u args (Ok p)) inv.2 c.in_ok-prepare.ensures.step in
     let h = c.in-Hand.handed in
-    let fits = c.hand_on-fits in
-    let drops = still_done ms file end start s u args inv.0 p h step c.in-Hand.is (held c.loop-run.self.handed) (held fits.new.to) (waiting fits.new.w) (g.R.Run.rest fits.new.run) fits.result c.is_done.result inv.1 fits.ensures.room fits.ensures.moved fits.ensures.dropped c.is_done.ensures c.if-is_done.false in
+    let fits = c.hand_on in
+    let drops = fits.ensures.dropped c.if-not-hand_on.false in
     let falls = size_handed s u p h (waiting fits.new.w) (g.R.Run.rest fits.new.run) c.in_ok-prepare.ensures.falls c.in-Hand.is drops in
     hand_falls (length (g.R.Run.rest c.args.run.now)) s.left u.left (length (waiting fits.new.w) + length (g.R.Run.rest fits.new.run)) (length s.w + length s.run) falls.0 falls.1
 
-pub loop-run-preserved-else-is_done : goal.loop-run-preserved-else-is_done
-loop-run-preserved-else-is_done g c =
+pub loop-run-preserved-else-is_some : goal.loop-run-preserved-else-is_some
+loop-run-preserved-else-is_some g c =
     let ms = macros c.args.context in
     let file = file_of c.args.context in
     let end = end_of (g.R.Run.end c.args.run.now) in
@@ -89,9 +90,9 @@ loop-run-preserved-else-is_done g c =
     let p = c.in_ok-prepare.field-0 in
     let step = subst (λ e. Preparing ms file (end_of e) s u args (Ok p)) inv.2 c.in_ok-prepare.ensures.step in
     let h = c.in-Hand.handed in
-    let fits = c.hand_on-fits in
-    let drops = still_done ms file end start s u args inv.0 p h step c.in-Hand.is (held c.loop-run.self.handed) (held fits.new.to) (waiting fits.new.w) (g.R.Run.rest fits.new.run) fits.result c.is_done.result inv.1 fits.ensures.room fits.ensures.moved fits.ensures.dropped c.is_done.ensures c.if-is_done.false in
-    let more = goes_on ms file end start s u args inv.0 p h step c.in-Hand.is (held c.loop-run.self.handed) (held fits.new.to) (waiting fits.new.w) (g.R.Run.rest fits.new.run) fits.result c.is_done.result inv.1 fits.ensures.room fits.ensures.moved fits.ensures.dropped c.is_done.ensures c.if-is_done.false in
+    let fits = c.hand_on in
+    let drops = fits.ensures.dropped c.if-not-hand_on.false in
+    let more = goes_on ms file end start s u args inv.0 p h step c.in-Hand.is (held c.loop-run.self.handed) fits.result inv.1 (held fits.new.to) (waiting fits.new.w) (g.R.Run.rest fits.new.run) c.is_some.result fits.ensures.moved c.if-not-hand_on.false drops c.is_some.ensures c.if-is_some.false in
     (more.0, more.1, fits.ensures.same ∙ c.in_ok-prepare.ensures.same ∙ inv.2, omega (arith, inv.3, falls_handed s u p h (waiting fits.new.w) (g.R.Run.rest fits.new.run) c.in_ok-prepare.ensures.falls c.in-Hand.is drops))
 
 pub returns-in_err-self-in-Replace-clause-answer : goal.returns-in_err-self-in-Replace-clause-answer
@@ -141,3 +142,18 @@ loop-run-preserved g c =
       c.in_ok-prepare.ensures.same ∙ inv.2,
       omega (arith, falls.1, inv.3),
     )
+
+pub returns-then-not-hand_on-clause-answer : goal.returns-then-not-hand_on-clause-answer
+returns-then-not-hand_on-clause-answer g c =
+    let ms = macros c.args.context in
+    let file = file_of c.args.context in
+    let end = end_of (g.R.Run.end c.args.run.now) in
+    let start = state_of c.args.self.now (g.R.Run.rest c.args.run.now) in
+    let s = state_of c.loop-run.self (g.R.Run.rest c.loop-run.run) in
+    let u : State = record { left = c.prepare.new.left; w = waiting c.prepare.new.w; run = g.R.Run.rest c.prepare.new.run } in
+    let args = arguments_in ms c.prepare.new.arguments in
+    let inv = c.loop-run.invariant in
+    let p = c.in_ok-prepare.field-0 in
+    let step = subst (λ e. Preparing ms file (end_of e) s u args (Ok p)) inv.2 c.in_ok-prepare.ensures.step in
+    let h = c.in-Hand.handed in
+    too_long_run ms file end start s u args inv.0 p h step c.in-Hand.is (held c.loop-run.self.handed) c.hand_on.result inv.1 c.hand_on.ensures.room c.if-not-hand_on.true c.fault_at.result (record { left = c.prepare.new.left; w = waiting c.hand_on.new.w; run = g.R.Run.rest c.line_of-line.new.run }) (held c.hand_on.new.to)
