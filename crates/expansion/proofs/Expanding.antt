@@ -134,14 +134,14 @@ module _ (ms : List Macro) (file : List ℕ) (n : ℕ) (end : Ends) (s u : State
   is = handed_items ms file (u.w ++ u.run) h
 
   -- no table holds a token that is too long
-  pub too_long : (old : List (Tagged HideSet)) (fits : Bool) → old ≡ [] → fits ≡ not (over (items_of ms old ++ is)) → fits ≡ false → over (take 1 all.items) ≡ false → ⊥
-  too_long old fits none room t short =
+  pub too_long : (old : List (Tagged HideSet)) (whole_in : Bool) → old ≡ [] → whole_in ≡ not (over (items_of ms old ++ is)) → whole_in ≡ false → over (take 1 all.items) ≡ false → ⊥
+  too_long old whole_in none room t short =
       let v = behind u (taken h) u.left in
       let steps = inv ∙ step_handed ms file n end s u args p h v.w v.run step hands (record { first = refl; then = refl }) in
       let big : over is ≡ true = ap (λ k. over (items_of ms k ++ is)) (sym none) ∙ not-false _ (sym room ∙ t) in
       long_first is (from ms file n end v).items (handed_few ms file (u.w ++ u.run) h) big (ap (λ o. over (take 1 o.items)) (sym steps) ∙ short)
 
-  module _ (old xs w run : List (Tagged HideSet)) (fits : Bool) (none : old ≡ []) (moves : items_of ms xs ≡ items_of ms old ++ cond fits is []) (t : fits ≡ true) (drops : Dropped (taken h) u.w u.run w run) where
+  module _ (old xs w run : List (Tagged HideSet)) (whole_in : Bool) (none : old ≡ []) (moves : items_of ms xs ≡ items_of ms old ++ cond whole_in is []) (t : whole_in ≡ true) (drops : Dropped (taken h) u.w u.run w run) where
     holds : items_of ms xs ≡ is
     holds = moves ∙ (λ j. items_of ms (none j) ++ cond (t j) is [])
 

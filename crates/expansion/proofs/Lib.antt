@@ -1,6 +1,7 @@
 pub mod Added
 pub mod Advanced
 pub mod Building
+pub mod Counts
 pub mod Expanding
 pub mod Falling
 pub mod Limits
