@@ -1,6 +1,8 @@
 -- Results and expansions, as the code makes them. Assumes nothing.
-use Rattle.std.specs.Prelude.{◌≡◌, ℕ, ◌≤◌, false, List, [], length, take, Some, None, Ok, Err, Option, Result}
+use Rattle.std.specs.Prelude.{◌≡◌, ℕ, ◌≤◌, Bool, true, false, List, [], length, take, Some, None, Ok, Err, Option, Result}
 use Rattle.text.specs.declared.Fault.{Fault}
+use Rattle.text.specs.declared.FaultKind.TheVariants.{ManyTokens}
+use Rattle.source.specs.declared.Ending.{Ending}
 use Rattle.source.specs.declared.Ending.TheVariants.{Whole, Fails}
 use Rattle.item.specs.declared.hide_set.HideSet.{HideSet}
 use Rattle.item.specs.Tables.{held}
@@ -66,17 +68,22 @@ handed_on x = held x.handed
 unfoldable pub expanding_from : List Macro → List ℕ → Ends → State → Outcome Item
 expanding_from ms file end s = expanding ms file 16 end s.left (items_of ms s.w) (items_of ms s.run)
 
--- the first token of an outcome is no longer than a table allows
-abbrev pub Short : Outcome Item → Type 0
-Short o = over (take 1 o.items) ≡ false
+-- the first token of an outcome is longer than a table allows
+abbrev pub is_long : Outcome Item → Bool
+is_long o = over (take 1 o.items)
 
--- What an answer says of the expansion from the state before it, with the state behind it: its first token is handed on,
--- or it has no token and ends so. No table holds a first token that is too long, and a fault says so.
+-- an ending that says so
+abbrev pub Overfull : Ending → Type 0
+Overfull Whole = ⊥
+Overfull (Fails f) = f.kind ≡ ManyTokens
+
+-- What an answer says of the expansion from the state before it, with the state behind it: its first token is handed on;
+-- or it has no token and ends so; or no table may hold its first token, and a fault says so.
 abbrev pub Advancing : List Macro → List ℕ → Ends → State → State → List (Tagged HideSet) → Next → Type 0
 Advancing ms file end s t xs Token =
     (expanding_from ms file end s ≡ (giving (items_of ms xs) t.left then (λ n. expanding_from ms file end (record { left = n; w = t.w; run = t.run })))) × (length xs ≡ 1)
 Advancing ms file end s t xs (End e) =
-    Short (expanding_from ms file end s) → ((expanding_from ms file end s).items ≡ []) × ((expanding_from ms file end s).ending ≡ end_of e) × (e ≡ Whole → (expanding_from ms file end s).left ≡ t.left)
+    (is_long (expanding_from ms file end s) ≡ false → ((expanding_from ms file end s).items ≡ []) × ((expanding_from ms file end s).ending ≡ end_of e) × (e ≡ Whole → (expanding_from ms file end s).left ≡ t.left)) × (is_long (expanding_from ms file end s) ≡ true → Overfull e)
 
 -- a fault ends the expansion
 abbrev pub next_of : Result Next Fault → Next

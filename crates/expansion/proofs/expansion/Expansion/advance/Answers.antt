@@ -156,4 +156,4 @@ returns-then-not-hand_on-clause-answer g c =
     let p = c.in_ok-prepare.field-0 in
     let step = subst (λ e. Preparing ms file (end_of e) s u args (Ok p)) inv.2 c.in_ok-prepare.ensures.step in
     let h = c.in-Hand.handed in
-    too_long_run ms file end start s u args inv.0 p h step c.in-Hand.is (held c.loop-run.self.handed) c.hand_on.result inv.1 c.hand_on.ensures.room c.if-not-hand_on.true c.fault_at.result (record { left = c.prepare.new.left; w = waiting c.hand_on.new.w; run = g.R.Run.rest c.line_of-line.new.run }) (held c.hand_on.new.to)
+    too_long_run ms file end start s u args inv.0 p h step c.in-Hand.is (held c.loop-run.self.handed) c.hand_on.result inv.1 c.hand_on.ensures.room c.if-not-hand_on.true c.fault_at.result (ap (λ f. f.kind) c.fault_at.ensures) (record { left = c.prepare.new.left; w = waiting c.hand_on.new.w; run = g.R.Run.rest c.line_of-line.new.run }) (held c.hand_on.new.to)
