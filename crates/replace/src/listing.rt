@@ -20,7 +20,19 @@ impl Listing {
         }
     }
 
-    pub(crate) fn add(&mut self, heap: Global, token: TokenRef<'_>) -> Result<(), AllocError> {
+    // Adds a token, where there is one.
+    pub(crate) fn add_some(
+        &mut self,
+        heap: Global,
+        token: Option<TokenRef<'_>>,
+    ) -> Result<(), AllocError> {
+        match token {
+            Some(token) => self.add(heap, token),
+            None => Ok(()),
+        }
+    }
+
+    fn add(&mut self, heap: Global, token: TokenRef<'_>) -> Result<(), AllocError> {
         if token.line != self.line {
             self.line = token.line;
             let line = token.line;

@@ -77,11 +77,7 @@ impl Plan {
         };
         loop {
             match self.expansion.next(context, &mut run) {
-                Next::Token => {
-                    if let Some(token) = self.expansion.token() {
-                        self.listing.add(heap, token)?;
-                    }
-                }
+                Next::Token => self.listing.add_some(heap, self.expansion.token())?,
                 Next::End(ending) => {
                     self.run.clear();
                     return Ok(ending);
