@@ -3,7 +3,7 @@
 
 usage: python3 tools/respell.py      at the top of the repository, once, after port.py
 
-It stops where docs/PORT.md tells that this is done: what was mended by hand since would turn again.
+It stops where docs/PORT.md is, which tells that this is done: what was mended by hand since would turn again.
 
 A row has the old name, a tab and the new one; a third part names the one file in which the row holds.
 In .antt files whole words turn, and lowerCamelCase ones in comments too. In .rt files only rows in lowerCamelCase turn, since

@@ -119,7 +119,7 @@ fn is_some(table: &TagTable<HideSet>) -> bool
     table.view().len() > 0
 }
 
-// The line of a token that is handed on.
+// The line of a token that is to be handed on.
 fn line_of<R: Run>(handed: Handed, w: &TagTable<HideSet>, run: &mut R) -> u32
     ensures same { R.Run.end run.new ≡ R.Run.end run.old }
 {

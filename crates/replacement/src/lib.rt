@@ -1,4 +1,4 @@
-// Macro replacement: so far its definition, by laws and worked examples.
+// Macro replacement: its definition, by laws and worked examples.
 #![tactic(auto)]
 
 ghost use Rattle.replacement.specs.Laws.{Unbounded, Unchanged, Settled, Parting};
