@@ -72,7 +72,7 @@ expanding_from ms file end s = expanding ms file 16 end s.left (items_of ms s.w)
 abbrev pub is_long : Outcome Item → Bool
 is_long o = over (take 1 o.items)
 
--- an ending that says so
+-- an ending that says so; the line of its fault is free
 abbrev pub Overfull : Ending → Type 0
 Overfull Whole = ⊥
 Overfull (Fails f) = f.kind ≡ ManyTokens
