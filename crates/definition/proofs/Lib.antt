@@ -1,4 +1,3 @@
-pub mod Further
 pub mod Lists
 pub mod Names
-pub mod Reading
+pub mod Parting

@@ -1,22 +1,10 @@
 -- Names with commas, two tokens on. Assumes nothing.
-use Rattle.std.proofs.Common.{◌≡◌, ℕ, suc, ◌+◌, ◌<◌, Bool, true, false, cond, not, ◌&&◌, ◌||◌, ltb, leb, List, [], ◌∷◌, length, drop, is_some, Some, None, codes, Option, sym, refl, ap, ◌∙◌, arith}
-use Rattle.std.specs.List.{slice_get}
-use Rattle.std.specs.Str.{bytes_eq}
+use Rattle.std.proofs.Common.{◌≡◌, ℕ, suc, ◌+◌, Bool, true, false, cond, not, ◌&&◌, ◌||◌, ltb, eqb, leb, List, [], ◌∷◌, length, is_some, Some, None, codes, Option, sym, refl, ap, ◌∙◌, arith}
 use Rattle.std.proofs.lemmas.Bool.Decides.{nat_tests}
 use Rattle.std.proofs.lemmas.Bool.{and_parts}
 use Rattle.token.specs.Tokens.{Token}
 use Rattle.definition.specs.Definitions.{member, names, parameters, few, fresh, nameable, spells, variable}
-use Rattle.definition.specs.Words.{word_of}
-use Rattle.definition.specs.Parameters.{words, fresh_name, starts_names}
-
-member_first : (w : List ℕ) (xs : List Token) (x : Token) → Some x ≡ slice_get xs 0 → member w (words xs) ≡ (bytes_eq w (word_of x) || member w (words (drop 2 xs)))
-member_first w [] x e = cc
-member_first w (y ∷ []) x e = let p : y ≡ x = cc in ap (λ z. bytes_eq w (word_of z) || false) p
-member_first w (y ∷ c ∷ ts) x e = let p : y ≡ x = cc in ap (λ z. bytes_eq w (word_of z) || member w (words ts)) p
-
-pub member_more : (w : List ℕ) (xs ys : List Token) (x : Token) → Some x ≡ slice_get xs 0 → false ≡ bytes_eq w (word_of x) → ys ≡ drop 2 xs → member w (words xs) ≡ member w (words ys)
-member_more w xs ys x e f d =
-    member_first w xs x e ∙ ap (λ q. q || member w (words (drop 2 xs))) (sym f) ∙ ap (λ zs. member w (words zs)) (sym d)
+use Rattle.definition.specs.Parameters.{words, fresh_name}
 
 -- where tokens are names, the names are the words
 
@@ -67,19 +55,12 @@ more_some true true s o ws h = fresh_some s o ws h
 more_some true false s o ws h = refl
 more_some false k s o ws h = refl
 
-names-step : (t c : Token) (ts : List Token) → is_some (names (t ∷ c ∷ ts)) ≡ (fresh_name t c ts && is_some (names ts))
-names-step t c ts = more_some (nameable t) (spells c (codes ",")) t.spelling (names ts) (words ts) (names_as ts)
+pub names_more : (t c : Token) (ts : List Token) → is_some (names (t ∷ c ∷ ts)) ≡ (fresh_name t c ts && is_some (names ts))
+names_more t c ts = more_some (nameable t) (spells c (codes ",")) t.spelling (names ts) (words ts) (names_as ts)
 
-pub names-stop : (xs : List Token) → 1 < length xs → false ≡ starts_names xs → is_some (names xs) ≡ false
-names-stop [] h e = refl
-names-stop (t ∷ []) h e = absurd (omega arith)
-names-stop (t ∷ c ∷ ts) h e = names-step t c ts ∙ ap (λ b. b && is_some (names ts)) (sym e)
-
-pub names_more : (xs ys : List Token) → true ≡ starts_names xs → ys ≡ drop 2 xs → is_some (names xs) ≡ is_some (names ys)
-names_more [] ys e d = cc
-names_more (t ∷ []) ys e d = cc
-names_more (t ∷ c ∷ ts) ys e d =
-    names-step t c ts ∙ ap (λ b. b && is_some (names ts)) (sym e) ∙ ap (λ zs. is_some (names zs)) (sym d)
+pub names_behind : (xs ys zs : List Token) (t c : Token) (b : Bool) → xs ≡ t ∷ ys → ys ≡ c ∷ zs → b ≡ fresh_name t c zs → is_some (names xs) ≡ (b && is_some (names zs))
+names_behind xs ys zs t c b e f h =
+    ap (λ ts. is_some (names ts)) (e ∙ ap (λ ts. t ∷ ts) f) ∙ names_more t c zs ∙ ap (λ d. d && is_some (names zs)) (sym h)
 
 -- n names and their commas are 2 n - 1 tokens
 
@@ -87,7 +68,7 @@ odd : (xs : List Token) → is_some (names xs) ≡ true → suc (length xs) ≡ 
 odd [] e = cc
 odd (t ∷ []) e = refl
 odd (t ∷ c ∷ ts) e =
-    let p : suc (length ts) ≡ length (words ts) + length (words ts) = odd ts (and_parts (fresh_name t c ts) (is_some (names ts)) (sym (names-step t c ts) ∙ e)).1 in
+    let p : suc (length ts) ≡ length (words ts) + length (words ts) = odd ts (and_parts (fresh_name t c ts) (is_some (names ts)) (sym (names_more t c ts) ∙ e)).1 in
     omega arith
 
 few_some : (o : Option (List (List ℕ))) (ws : List (List ℕ)) (n : ℕ) → As o ws → (is_some o ≡ true → suc n ≡ length ws + length ws) → is_some (few o) ≡ (ltb n 254 && is_some o)
@@ -106,14 +87,12 @@ few_as : (o : Option (List (List ℕ))) (ws : List (List ℕ)) → As o ws → A
 few_as None ws h = refl
 few_as (Some ns) ws h = let p : ns ≡ ws = cc in short_as (leb (length ns) 127) ns ws p
 
-pub parameters_as : (xs : List Token) → As (parameters xs) (words xs)
+pub parameters_as : (xs : List Token) → parameters xs ≡ cond (is_some (parameters xs)) (Some (words xs)) None
 parameters_as [] = refl
 parameters_as (t ∷ ts) = few_as (names (t ∷ ts)) (words (t ∷ ts)) (names_as (t ∷ ts))
 
-pub parameters_some : (xs : List Token) (n : ℕ) → n ≡ length xs → (n ≡ 0 → ⊥) → is_some (parameters xs) ≡ (ltb n 254 && is_some (names xs))
-parameters_some [] n e h = absurd (h e)
-parameters_some (t ∷ ts) n e h =
-    few_some (names (t ∷ ts)) (words (t ∷ ts)) (length (t ∷ ts)) (names_as (t ∷ ts)) (odd (t ∷ ts)) ∙ ap (λ m. ltb m 254 && is_some (names (t ∷ ts))) (sym e)
-
-pub proper-names : (xs : List Token) → true ≡ is_some (parameters xs) → Some (words xs) ≡ parameters xs
-proper-names xs e = ap (λ b. cond b (Some (words xs)) None) e ∙ sym (parameters_as xs)
+pub parameters_some : (xs : List Token) → is_some (parameters xs) ≡ (eqb (length xs) 0 || (ltb (length xs) 254 && is_some (names xs)))
+parameters_some [] = refl
+parameters_some (t ∷ ts) =
+    let some = few_some (names (t ∷ ts)) (words (t ∷ ts)) (length (t ∷ ts)) (names_as (t ∷ ts)) (odd (t ∷ ts)) in
+    let full : eqb (length (t ∷ ts)) 0 ≡ false = grind (arith, nat_tests) in some ∙ ap (λ b. b || (ltb (length (t ∷ ts)) 254 && is_some (names (t ∷ ts)))) (sym full)

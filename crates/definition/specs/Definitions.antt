@@ -1,5 +1,7 @@
 -- A macro definition, read from the tokens behind `define`. Assumes nothing.
-use Rattle.std.specs.Prelude.{ℕ, Bool, true, false, cond, not, ◌&&◌, ◌||◌, List, [], ◌∷◌, length, Some, None, codes, Option, nat_le}
+use Rattle.std.specs.Prelude.{ℕ, ◌+◌, Bool, true, false, cond, not, ◌&&◌, ◌||◌, List, [], ◌∷◌, length, take, drop, position, Some, None, codes, Option, nat_le}
+use Rattle.std.specs.List.{list_any, list_all}
+use Rattle.std.specs.Option.{option_map}
 use Rattle.std.specs.Str.{bytes_eq}
 use Rattle.token.specs.declared.Kind.{Kind}
 use Rattle.token.specs.declared.Kind.TheVariants.{Identifier, Number, Character, String, Punctuator, Other}
@@ -14,8 +16,7 @@ pub record Macro : Type 0 where
 
 -- whether a word is one of the words
 abbrev pub member : List ℕ → List (List ℕ) → Bool
-member w [] = false
-member w (x ∷ xs) = bytes_eq w x || member w xs
+member w xs = list_any (λ x. bytes_eq w x) xs
 
 abbrev pub variable : List ℕ
 variable = codes "__VA_ARGS__"
@@ -72,13 +73,8 @@ pub record Parted : Type 0 where
   pub inside : List Token
   pub behind : List Token
 
-abbrev pub further : Token → Option Parted → Option Parted
-further t None = None
-further t (Some p) = Some (record { inside = t ∷ p.inside; behind = p.behind })
-
 abbrev pub parted : List Token → Option Parted
-parted [] = None
-parted (t ∷ ts) = cond (spells t (codes ")")) (Some (record { inside = []; behind = ts })) (further t (parted ts))
+parted ts = option_map (λ n. record { inside = take n ts; behind = drop (n + 1) ts }) (position (λ t. spells t (codes ")")) ts)
 
 -- ## stands neither first nor last in a list
 abbrev pub last_joins : List Token → Bool
@@ -98,8 +94,7 @@ hashed ns (t ∷ u ∷ ts) = (not (hash t) || member u.spelling ns) && hashed ns
 
 -- __VA_ARGS__ stands in no list
 abbrev pub plain : List Token → Bool
-plain [] = true
-plain (t ∷ ts) = not (spells t variable) && plain ts
+plain ts = list_all (λ t. not (spells t variable)) ts
 
 -- whether a list is proper for parameters, none where it is object-like
 abbrev pub proper_for : Option (List (List ℕ)) → List Token → Bool

@@ -2,5 +2,4 @@ pub mod Definitions
 pub mod Lists
 pub mod Meaning
 pub mod Parameters
-pub mod Places
 pub mod Words

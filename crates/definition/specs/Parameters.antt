@@ -1,8 +1,8 @@
 -- Parameters as the tokens between the parentheses show them. Assumes nothing.
-use Rattle.std.specs.Prelude.{ℕ, Bool, false, not, ◌&&◌, List, [], ◌∷◌, codes}
+use Rattle.std.specs.Prelude.{ℕ, Bool, not, ◌&&◌, List, [], ◌∷◌, codes}
 use Rattle.token.specs.Tokens.{Token}
 use Rattle.definition.specs.Definitions.{member, spells, nameable}
-use Rattle.definition.specs.Words.{word_of, last_name}
+use Rattle.definition.specs.Words.{word_of}
 
 -- what the tokens at the first, third, fifth .. place are called
 abbrev pub words : List Token → List (List ℕ)
@@ -13,14 +13,3 @@ words (t ∷ c ∷ ts) = word_of t ∷ words ts
 -- a name and a comma before parameters, none of which is called so
 abbrev pub fresh_name : Token → Token → List Token → Bool
 fresh_name t c ts = nameable t && spells c (codes ",") && not (member t.spelling (words ts))
-
--- whether such a name stands first
-abbrev pub starts_names : List Token → Bool
-starts_names [] = false
-starts_names (t ∷ []) = false
-starts_names (t ∷ c ∷ ts) = fresh_name t c ts
-
--- whether the first token may be the last parameter
-abbrev pub ends_names : List Token → Bool
-ends_names [] = false
-ends_names (t ∷ ts) = last_name t

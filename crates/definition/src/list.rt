@@ -7,33 +7,25 @@ ghost use Rattle.definition.specs.Lists.{starts_in, hashed_first};
 ghost use Rattle.definition.specs.Parameters.{words};
 
 use crate::parameters::has_parameter;
-use crate::places::behind;
-use crate::words::{VARIABLE, is_hash, is_join, same};
+use crate::words::{VARIABLE, is_hash, is_join};
 use token::{TokenRef, Tokens};
 
 fn first_joins(list: Tokens<'_>) -> bool
     ensures { result ≡ first_joins (view_tokens list.entry) }
 {
-    match list.get(0) {
-        Some(token) => is_join(token),
-        None => false,
-    }
+    list.get(0).is_some_and(is_join)
 }
 
 fn last_joins(list: Tokens<'_>) -> bool
     ensures { result ≡ last_joins (view_tokens list.entry) }
 {
-    let len = list.len();
-    len > 0 && first_joins(behind(list, len - 1))
+    list.last().is_some_and(is_join)
 }
 
 fn starts_with_parameter(list: Tokens<'_>, inside: Tokens<'_>) -> bool
     ensures { result ≡ starts_in (words (view_tokens inside.entry)) (view_tokens list.entry) }
 {
-    match list.get(0) {
-        Some(token) => has_parameter(inside, token.spelling),
-        None => false,
-    }
+    matches!(list.get(0), Some(token) if has_parameter(inside, token.spelling))
 }
 
 // Whether the token is no #, or a parameter stands behind it.
@@ -44,13 +36,11 @@ fn is_hashed(token: TokenRef<'_>, rest: Tokens<'_>, inside: Tokens<'_>) -> bool
 }
 
 // Whether a parameter stands behind each #.
-fn all_hashed(list: Tokens<'_>, inside: Tokens<'_>) -> bool
+fn all_hashed(mut list: Tokens<'_>, inside: Tokens<'_>) -> bool
     ensures { result ≡ hashed (words (view_tokens inside.entry)) (view_tokens list.entry) }
 {
-    let mut rest = list;
-    while let Some(token) = rest.get(0) {
-        rest = behind(rest, 1);
-        if !is_hashed(token, rest, inside) {
+    while let Some(token) = list.next() {
+        if !is_hashed(token, list, inside) {
             return false;
         }
     }
@@ -58,17 +48,10 @@ fn all_hashed(list: Tokens<'_>, inside: Tokens<'_>) -> bool
 }
 
 // Whether `__VA_ARGS__` is missing.
-fn is_plain(list: Tokens<'_>) -> bool
+fn is_plain(mut list: Tokens<'_>) -> bool
     ensures { result ≡ plain (view_tokens list.entry) }
 {
-    let mut rest = list;
-    while let Some(token) = rest.get(0) {
-        if same(token.spelling, VARIABLE) {
-            return false;
-        }
-        rest = behind(rest, 1);
-    }
-    true
+    list.all(|token| !token.spells(VARIABLE))
 }
 
 // Whether the list may be that of an object-like definition.

@@ -2,23 +2,22 @@
 ghost use Rattle.std.specs.Prelude.{◌≡◌, None};
 ghost use Rattle.std.specs.Option.{option_map};
 ghost use Rattle.token.specs.Views.{view_tokens};
-ghost use Rattle.definition.specs.Definitions.{define, behind_name, in_parentheses, parted, function_like, made, parameters as parameters_of};
-ghost use Rattle.definition.specs.Meaning.{macro_of};
+ghost use Rattle.definition.specs.Definitions.{define, behind_name, in_parentheses, parted, made};
+ghost use Rattle.definition.specs.Meaning.{macro_of, shown_parts};
 
 use crate::Definition;
 use crate::list::{is_proper, is_proper_for};
 use crate::parameters::are_parameters;
-use crate::places::{behind, closing_index};
-use crate::words::{is_identifier, is_reserved, same};
-use token::Tokens;
+use crate::words::is_reserved;
+use token::{Kind, Tokens};
 
 // The definition that the tokens behind `define` are, or none where they break a constraint.
-pub fn read_definition(tokens: Tokens<'_>) -> Option<Definition<'_>>
+pub fn read_definition(mut tokens: Tokens<'_>) -> Option<Definition<'_>>
     ensures { option_map macro_of result ≡ define (view_tokens tokens.entry) }
 {
-    let name = tokens.get(0)?;
-    if is_identifier(name.kind) && !is_reserved(name.spelling) {
-        read_behind(name.spelling, behind(tokens, 1))
+    let name = tokens.next()?;
+    if name.kind == Kind::Identifier && !is_reserved(name.spelling) {
+        read_behind(name.spelling, tokens)
     } else {
         None
     }
@@ -33,8 +32,8 @@ fn read_behind<'a>(name: &'a [u8], tokens: Tokens<'a>) -> Option<Definition<'a>>
     };
     if first.marked {
         object_like(name, tokens)
-    } else if same(first.spelling, b"(") {
-        read_parameters(name, behind(tokens, 1))
+    } else if first.spells(b"(") {
+        function_like(name, tokens.behind(1))
     } else {
         None
     }
@@ -43,39 +42,32 @@ fn read_behind<'a>(name: &'a [u8], tokens: Tokens<'a>) -> Option<Definition<'a>>
 fn object_like<'a>(name: &'a [u8], list: Tokens<'a>) -> Option<Definition<'a>>
     ensures { option_map macro_of result ≡ made name.now None (view_tokens list.entry) }
 {
-    if is_proper(list) {
-        Some(Definition {
-            name,
-            parameters: None,
-            list,
-        })
-    } else {
-        None
-    }
+    is_proper(list).then_some(Definition {
+        name,
+        parameters: None,
+        list,
+    })
 }
 
 // The tokens stand behind the `(`.
-fn read_parameters<'a>(name: &'a [u8], tokens: Tokens<'a>) -> Option<Definition<'a>>
+#[tactic(auto, using(crate::proofs::Names::parameters_as))]
+fn function_like<'a>(name: &'a [u8], tokens: Tokens<'a>) -> Option<Definition<'a>>
     ensures { option_map macro_of result ≡ in_parentheses name.now (parted (view_tokens tokens.entry)) }
 {
-    let end = closing_index(tokens)?;
-    let list = behind(behind(tokens, end), 1);
-    function_like(name, tokens.part(0, end), list)
+    let (inside, list) = parted(tokens)?;
+    let proper = are_parameters(inside) && is_proper_for(inside, list);
+    proper.then_some(Definition {
+        name,
+        parameters: Some(inside),
+        list,
+    })
 }
 
-fn function_like<'a>(name: &'a [u8], inside: Tokens<'a>, list: Tokens<'a>) -> Option<Definition<'a>>
-    ensures { option_map macro_of result ≡ function_like name.now (view_tokens list.entry) (parameters_of (view_tokens inside.entry)) }
+// The tokens before the first `)` and those behind it.
+fn parted(tokens: Tokens<'_>) -> Option<(Tokens<'_>, Tokens<'_>)>
+    ensures { option_map shown_parts result ≡ parted (view_tokens tokens.entry) }
 {
-    if !are_parameters(inside) {
-        return None;
-    }
-    if is_proper_for(inside, list) {
-        Some(Definition {
-            name,
-            parameters: Some(inside),
-            list,
-        })
-    } else {
-        None
-    }
+    let mut rest = tokens;
+    let end = rest.position(|token| token.spells(b")"))?;
+    Some((tokens.part(0, end), rest))
 }

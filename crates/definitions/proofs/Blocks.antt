@@ -13,51 +13,51 @@ use Rattle.definitions.specs.InForce.{words_size, size, sizes, list_token_count}
 use Rattle.definitions.specs.Layout.{name_token, name_tokens, parameter_tokens, laid}
 use Rattle.definitions.proofs.Laying.{spelled-append}
 
-starts : (at : ℕ) (e : Entry) (es : List Entry) (end : ℕ) → placed at (e ∷ es) end ≡ true → e.start ≡ at
-starts at e es end h = eqb-true _ _ (and_parts (eqb e.start at) _ h).0
+starts : (at : ℕ) (e : Entry) (es : List Entry) (end : ℕ) → placed at (e ∷ es) end ≡ true → e.block.start ≡ at
+starts at e es end h = eqb-true _ _ (and_parts (eqb e.block.start at) _ h).0
 
 few_first : (at : ℕ) (e : Entry) (es : List Entry) (end : ℕ) → placed at (e ∷ es) end ≡ true → unwrap_or e.parameters 0 ≤ 127
-few_first at e es end h = leb-true _ _ (and_parts (leb (unwrap_or e.parameters 0) 127) _ (and_parts (eqb e.start at) _ h).1).0
+few_first at e es end h = leb-true _ _ (and_parts (leb (unwrap_or e.parameters 0) 127) _ (and_parts (eqb e.block.start at) _ h).1).0
 
-goes_on : (at : ℕ) (e : Entry) (es : List Entry) (end : ℕ) → placed at (e ∷ es) end ≡ true → placed (at + e.len) es end ≡ true
-goes_on at e es end h = (and_parts (leb (unwrap_or e.parameters 0) 127) _ (and_parts (eqb e.start at) _ h).1).1
+goes_on : (at : ℕ) (e : Entry) (es : List Entry) (end : ℕ) → placed at (e ∷ es) end ≡ true → placed (at + e.block.len) es end ≡ true
+goes_on at e es end h = (and_parts (leb (unwrap_or e.parameters 0) 127) _ (and_parts (eqb e.block.start at) _ h).1).1
 
 ends : (at : ℕ) (es : List Entry) (end : ℕ) → placed at es end ≡ true → at ≤ end
 ends at [] end h = omega (arith, eqb-true at end h)
-ends at (e ∷ es) end h = omega (arith, ends (at + e.len) es end (goes_on at e es end h))
+ends at (e ∷ es) end h = omega (arith, ends (at + e.block.len) es end (goes_on at e es end h))
 
-within : (at : ℕ) (e : Entry) (es : List Entry) (end : ℕ) → placed at (e ∷ es) end ≡ true → e.start + e.len ≤ end
-within at e es end h = omega (arith, starts at e es end h, ends (at + e.len) es end (goes_on at e es end h))
+within : (at : ℕ) (e : Entry) (es : List Entry) (end : ℕ) → placed at (e ∷ es) end ≡ true → e.block.start + e.block.len ≤ end
+within at e es end h = omega (arith, starts at e es end h, ends (at + e.block.len) es end (goes_on at e es end h))
 
 pub few_at : (at : ℕ) (es : List Entry) (end i : ℕ) (d : Entry) → placed at es end ≡ true → i < length es → unwrap_or (get_or es i d).parameters 0 ≤ 127
 few_at at [] end i d h l = absurd (omega arith)
 few_at at (e ∷ es) end zero d h l = few_first at e es end h
-few_at at (e ∷ es) end (suc i) d h l = few_at (at + e.len) es end i d (goes_on at e es end h) (omega arith)
+few_at at (e ∷ es) end (suc i) d h l = few_at (at + e.block.len) es end i d (goes_on at e es end h) (omega arith)
 
 -- one more block, which starts where the last one ended
-pub placed-push : (at : ℕ) (es : List Entry) (end : ℕ) (e : Entry) → placed at es end ≡ true → e.start ≡ end → unwrap_or e.parameters 0 ≤ 127 → placed at (es ++ e ∷ []) (end + e.len) ≡ true
+pub placed-push : (at : ℕ) (es : List Entry) (end : ℕ) (e : Entry) → placed at es end ≡ true → e.block.start ≡ end → unwrap_or e.parameters 0 ≤ 127 → placed at (es ++ e ∷ []) (end + e.block.len) ≡ true
 placed-push at [] end e h s f =
     let same = eqb-true at end h in
-    and_from _ _ (eq-eqb _ _ (s ∙ sym same)) (and_from _ _ (le-leb _ _ f) (eq-eqb _ _ (ap (λ n. n + e.len) same)))
+    and_from _ _ (eq-eqb _ _ (s ∙ sym same)) (and_from _ _ (le-leb _ _ f) (eq-eqb _ _ (ap (λ n. n + e.block.len) same)))
 placed-push at (o ∷ es) end e h s f =
-    and_from _ _ (eq-eqb _ _ (starts at o es end h)) (and_from _ _ (le-leb _ _ (few_first at o es end h)) (placed-push (at + o.len) es end e (goes_on at o es end h) s f))
+    and_from _ _ (eq-eqb _ _ (starts at o es end h)) (and_from _ _ (le-leb _ _ (few_first at o es end h)) (placed-push (at + o.block.len) es end e (goes_on at o es end h) s f))
 
 -- a block within the tokens stays, whatever is added behind
-block_stays : (ts more : List Token) (e : Entry) → e.start + e.len ≤ length ts → block (ts ++ more) e ≡ block ts e
+block_stays : (ts more : List Token) (e : Entry) → e.block.start + e.block.len ≤ length ts → block (ts ++ more) e ≡ block ts e
 block_stays ts more e h =
-    let long : e.len ≤ length (drop e.start ts) = simp length-drop (omega arith) in
-    ap (take e.len) (drop-append-le e.start ts more (omega arith)) ∙ take-append-le e.len (drop e.start ts) more long
+    let long : e.block.len ≤ length (drop e.block.start ts) = simp length-drop (omega arith) in
+    ap (take e.block.len) (drop-append-le e.block.start ts more (omega arith)) ∙ take-append-le e.block.len (drop e.block.start ts) more long
 
 macros_stay : (ts more : List Token) (at : ℕ) (es : List Entry) → placed at es (length ts) ≡ true → map (macro_at (ts ++ more)) es ≡ map (macro_at ts) es
 macros_stay ts more at [] h = refl
 macros_stay ts more at (e ∷ es) h =
     let same = block_stays ts more e (within at e es _ h) in
-    λ i. block_macro (same i) e.parameters ∷ macros_stay ts more (at + e.len) es (goes_on at e es _ h) i
+    λ i. block_macro (same i) e.parameters ∷ macros_stay ts more (at + e.block.len) es (goes_on at e es _ h) i
 
 -- one more block behind the tokens
-pub macros-push : (ts b : List Token) (es : List Entry) (e : Entry) → placed 0 es (length ts) ≡ true → e.start ≡ length ts → e.len ≡ length b → map (macro_at (ts ++ b)) (es ++ e ∷ []) ≡ map (macro_at ts) es ++ block_macro b e.parameters ∷ []
+pub macros-push : (ts b : List Token) (es : List Entry) (e : Entry) → placed 0 es (length ts) ≡ true → e.block.start ≡ length ts → e.block.len ≡ length b → map (macro_at (ts ++ b)) (es ++ e ∷ []) ≡ map (macro_at ts) es ++ block_macro b e.parameters ∷ []
 macros-push ts b es e h s l =
-    let new : block (ts ++ b) e ≡ b = ap (take e.len) (drop_at ts b e.start (sym s)) ∙ take_all e.len b (omega arith) in
+    let new : block (ts ++ b) e ≡ b = ap (take e.block.len) (drop_at ts b e.block.start (sym s)) ∙ take_all e.block.len b (omega arith) in
     map_push (macro_at (ts ++ b)) es e ∙ (λ i. macros_stay ts b 0 es h i ++ block_macro (new i) e.parameters ∷ [])
 
 -- a block and its definition have the same bytes
@@ -80,9 +80,9 @@ size-block b (Some n) = omega (arith, spelled_first b, size-spellings (take n (d
 sizes_from : (ts : List Token) (at : ℕ) (es : List Entry) → placed at es (length ts) ≡ true → sizes (map (macro_at ts) es) ≡ spelled (drop at ts)
 sizes_from ts at [] h = ap spelled (sym (drop_all at ts (omega (arith, eqb-true at _ h))))
 sizes_from ts at (e ∷ es) h =
-    let here = ap (λ n. spelled (take e.len (drop n ts))) (starts at e es _ h) in
-    let rest = ap spelled (drop-drop e.len at ts) in
-    omega (arith, size-block (block ts e) e.parameters, here, rest, spelled_parts e.len (drop at ts), sizes_from ts (at + e.len) es (goes_on at e es _ h))
+    let here = ap (λ n. spelled (take e.block.len (drop n ts))) (starts at e es _ h) in
+    let rest = ap spelled (drop-drop e.block.len at ts) in
+    omega (arith, size-block (block ts e) e.parameters, here, rest, spelled_parts e.block.len (drop at ts), sizes_from ts (at + e.block.len) es (goes_on at e es _ h))
 
 pub sizes-placed : (ts : List Token) (es : List Entry) → placed 0 es (length ts) ≡ true → sizes (map (macro_at ts) es) ≡ spelled ts
 sizes-placed ts es h = sizes_from ts 0 es h
@@ -95,8 +95,8 @@ length_from : (ts : List Token) (at : ℕ) (es : List Entry) → placed at es (l
 length_from ts at [] h = omega (arith, eqb-true at _ h)
 length_from ts at (e ∷ es) h =
     let w = within at e es _ h in
-    let long : e.len ≤ length (drop e.start ts) = simp length-drop (omega arith) in
-    omega (arith, length-take-le e.len (drop e.start ts) long, block-length (block ts e) e.parameters (few_first at e es _ h), length_from ts (at + e.len) es (goes_on at e es _ h))
+    let long : e.block.len ≤ length (drop e.block.start ts) = simp length-drop (omega arith) in
+    omega (arith, length-take-le e.block.len (drop e.block.start ts) long, block-length (block ts e) e.parameters (few_first at e es _ h), length_from ts (at + e.block.len) es (goes_on at e es _ h))
 
 pub length-placed : (ts : List Token) (es : List Entry) → placed 0 es (length ts) ≡ true → length ts ≤ 128 * length es + list_token_count (map (macro_at ts) es)
 length-placed ts es h = omega (arith, length_from ts 0 es h)

@@ -1,50 +1,37 @@
 -- The place of a name among names. Assumes nothing.
-use Rattle.std.proofs.Common.{◌≡◌, ℕ, suc, ◌+◌, ◌<◌, ◌≤◌, Bool, true, false, cond, List, [], ◌∷◌, map, length, get_or, drop, Some, None, Option, sym, refl, ap, ◌∙◌, arith}
+use Rattle.std.proofs.Common.{◌≡◌, ℕ, suc, ◌+◌, ◌<◌, Bool, true, false, cond, List, [], ◌∷◌, map, length, position, Some, None, Option, sym, refl, ap, ◌∙◌, arith}
 use lib.ListN.{length-map}
 use Rattle.std.specs.Option.{option_map}
 use Rattle.std.specs.Str.{bytes_eq}
-use Rattle.std.proofs.lemmas.List.{drop_all, drop_more}
+use Rattle.std.specs.List.{position_from}
+use Rattle.std.proofs.lemmas.Simd.{map-map}
+use Rattle.std.proofs.lemmas.Iterator.Adapters.{position_from-zero}
 use Rattle.token.specs.Tokens.{Token}
 use Rattle.definition.specs.Definitions.{Macro}
 use Rattle.definitions.specs.declared.entry.Entry.{Entry}
 use Rattle.definitions.specs.Blocks.{macro_at}
 use Rattle.definitions.specs.InForce.{index, slot}
 
--- a place that is counted from i, counted from 0
-abbrev pub numbered : ℕ → Option ℕ → Option ℕ
-numbered i = option_map (λ k. i + k)
+numbered-step : (i : ℕ) (b : Bool) (o : Option ℕ) → cond b (Some i) (option_map (λ k. i + 1 + k) o) ≡ option_map (λ k. i + k) (cond b (Some 0) (option_map suc o))
+numbered-step i true o = ap Some (omega arith)
+numbered-step i false None = refl
+numbered-step i false (Some k) = ap Some (omega arith)
 
--- the place of a name among the definitions from i on
-abbrev pub slot_from : List ℕ → List Token → ℕ → List Entry → Option ℕ
-slot_from n ts i es = numbered i (slot n (map (macro_at ts) (drop i es)))
+-- the position of a word among what a function gives, from i on
+position-from : {A : Type 0} (f : A → List ℕ) (n : List ℕ) (i : ℕ) (xs : List A) → position_from (λ x. bytes_eq n (f x)) i xs ≡ option_map (λ k. i + k) (index n (map f xs))
+position-from f n i [] = refl
+position-from f n i (x ∷ xs) =
+    let b = bytes_eq n (f x) in ap (cond b (Some i)) (position-from f n (i + 1) xs) ∙ numbered-step i b (index n (map f xs))
 
-from_zero : (o : Option ℕ) → numbered 0 o ≡ o
+from_zero : (o : Option ℕ) → option_map (λ k. 0 + k) o ≡ o
 from_zero None = refl
 from_zero (Some k) = ap Some (omega arith)
 
-pub from_start : (n : List ℕ) (ts : List Token) (es : List Entry) → slot_from n ts 0 es ≡ slot n (map (macro_at ts) es)
-from_start n ts es = from_zero (slot n (map (macro_at ts) es))
+pub position-index : {A : Type 0} (f : A → List ℕ) (n : List ℕ) (xs : List A) → position (λ x. bytes_eq n (f x)) xs ≡ index n (map f xs)
+position-index f n xs = position_from-zero (λ x. bytes_eq n (f x)) xs ∙ position-from f n 0 xs ∙ from_zero (index n (map f xs))
 
-from_step : (i : ℕ) (b : Bool) (o : Option ℕ) → numbered i (cond b (Some 0) (option_map suc o)) ≡ cond b (Some i) (numbered (i + 1) o)
-from_step i true o = ap Some (omega arith)
-from_step i false None = refl
-from_step i false (Some k) = ap Some (omega arith)
-
-module _ (n : List ℕ) (ts : List Token) (es : List Entry) (i : ℕ) (all : Option ℕ) (inv : slot_from n ts i es ≡ all) where
-  from_here : (d : Entry) (b : Bool) → i < length es → b ≡ bytes_eq n (macro_at ts (get_or es i d)).name → cond b (Some i) (slot_from n ts (i + 1) es) ≡ all
-  from_here d b h p =
-      let rest : Option ℕ = slot n (map (macro_at ts) (drop (i + 1) es)) in
-      sym (ap (λ l. numbered i (slot n (map (macro_at ts) l))) (drop_more es i d h) ∙ ap (λ t. numbered i (cond t (Some 0) (option_map suc rest))) (sym p) ∙ from_step i b rest) ∙ inv
-
-  -- the definition at i has the name, or not, or there is none
-  pub found_here : (d : Entry) → i < length es → true ≡ bytes_eq n (macro_at ts (get_or es i d)).name → Some i ≡ all
-  found_here d h p = from_here d true h p
-
-  pub not_here : (d : Entry) → i < length es → false ≡ bytes_eq n (macro_at ts (get_or es i d)).name → slot_from n ts (i + 1) es ≡ all
-  not_here d h p = from_here d false h p
-
-  pub not_found : length es ≤ i → None ≡ all
-  not_found h = sym (ap (λ l. numbered i (slot n (map (macro_at ts) l))) (drop_all i es h)) ∙ inv
+pub slot_at : (n : List ℕ) (ts : List Token) (es : List Entry) → position (λ e. bytes_eq n (macro_at ts e).name) es ≡ slot n (map (macro_at ts) es)
+slot_at n ts es = position-index (λ e. (macro_at ts e).name) n es ∙ ap (index n) (sym (map-map (λ m. m.name) (macro_at ts) es))
 
 index_below : (n : List ℕ) (ws : List (List ℕ)) (k : ℕ) → index n ws ≡ Some k → k < length ws
 index_below n [] k e = let z : ◌≡◌ {A = ℕ} 0 1 = cc in omega arith

@@ -1,17 +1,18 @@
 -- Hints, and names that are not repeated. Assumes nothing.
-use Rattle.std.proofs.Common.{◌≡◌, ℕ, zero, suc, ◌+◌, Bool, true, false, cond, not, eqb, List, [], ◌∷◌, ◌++◌, map, get_or, take, is_some, Some, None, Option, sym, refl, ap, ◌∙◌, arith}
+use Rattle.std.proofs.Common.{◌≡◌, ℕ, zero, suc, ◌+◌, Bool, true, false, cond, not, eqb, List, [], ◌∷◌, ◌++◌, map, take, is_some, Some, None, Option, sym, refl, ap, ◌∙◌, arith}
 use Rattle.std.specs.List.{slice_get}
 use Rattle.std.specs.Option.{option_map}
 use Rattle.std.specs.Str.{bytes_eq}
 use Rattle.std.proofs.lemmas.Slice.Eq.{bytes_eq-Decides}
 use Rattle.std.proofs.lemmas.List.{map_push}
+use Rattle.std.proofs.lemmas.Option.{slice_get-map}
 use Rattle.std.proofs.lemmas.Bool.{and_parts, and_from, both_ways}
 use Rattle.std.proofs.lemmas.Bool.Decides.{nat_tests}
 use Rattle.definition.specs.Definitions.{Macro}
-use Rattle.definitions.specs.Hashes.{cell_of, hint_of}
-use Rattle.definitions.specs.Hints.{hinted, distinct, is_named}
+use Rattle.definitions.specs.Hashes.{cell_of}
+use Rattle.definitions.specs.Hints.{cell, hinted, distinct, is_named}
 use Rattle.definitions.specs.InForce.{index, slot, without}
-use Rattle.definitions.proofs.Lists.{nth-map, take_some}
+use Rattle.definitions.proofs.Lists.{take_some}
 
 same_self : (w : List ℕ) → bytes_eq w w ≡ true
 same_self w = (bytes_eq-Decides w w).1 refl
@@ -47,16 +48,15 @@ index_first false o e = (refl, sym (later_none o) ∙ e)
 index_none : (n w : List ℕ) (ws : List (List ℕ)) → bytes_eq n w ≡ false → is_some (index n ws) ≡ false → is_some (index n (w ∷ ws)) ≡ false
 index_none n w ws e h = ap is_some (index_later n w ws e) ∙ later_none (index n ws) ∙ h
 
--- a name whose cell is 0 does not stand among the names
-unhinted : (cells : List ℕ) (n : List ℕ) (ws : List (List ℕ)) → hinted cells ws ≡ true → get_or cells (cell_of n) 0 ≡ 0 → is_some (index n ws) ≡ false
+-- a name whose cell has no slot does not stand among the names
+unhinted : (cells : List (Option ℕ)) (n : List ℕ) (ws : List (List ℕ)) → hinted cells ws ≡ true → cell cells (cell_of n) ≡ None → is_some (index n ws) ≡ false
 unhinted cells n [] h e = refl
 unhinted cells n (w ∷ ws) h e =
-    let parts = and_parts (not (eqb (get_or cells (cell_of w) 0) 0)) (hinted cells ws) h in
-    let apart : eqb (get_or cells (cell_of w) 0) 0 ≡ false = not_false (eqb (get_or cells (cell_of w) 0) 0) parts.0 in
-    let differs : bytes_eq n w ≡ false = untrue (bytes_eq n w) (λ s. both_ways (eqb (get_or cells (cell_of w) 0) 0) apart (ap (λ z. eqb z 0) (sym (ap (λ v. get_or cells (cell_of v) 0) ((bytes_eq-Decides n w).0 s)) ∙ e))) in
+    let parts = and_parts (is_some (cell cells (cell_of w))) (hinted cells ws) h in
+    let differs : bytes_eq n w ≡ false = untrue (bytes_eq n w) (λ s. both_ways (is_some (cell cells (cell_of w))) (ap is_some (sym (ap (λ v. cell cells (cell_of v)) ((bytes_eq-Decides n w).0 s)) ∙ e)) parts.0) in
     index_none n w ws differs (unhinted cells n ws parts.1 e)
 
-pub hint_none : (cells : List ℕ) (n : List ℕ) (ms : List Macro) → hinted cells (map (λ m. m.name) ms) ≡ true → get_or cells (cell_of n) 0 ≡ 0 → None ≡ slot n ms
+pub hint_none : (cells : List (Option ℕ)) (n : List ℕ) (ms : List Macro) → hinted cells (map (λ m. m.name) ms) ≡ true → cell cells (cell_of n) ≡ None → None ≡ slot n ms
 hint_none cells n ms h e = sym (none_is (slot n ms) (unhinted cells n (map (λ m. m.name) ms) h e))
 
 -- a name that stands at a place stands there first
@@ -78,7 +78,7 @@ named_some n (Some m) e = ap Some (sym ((bytes_eq-Decides n m.name).0 (sym e)))
 
 pub hint_right : (n : List ℕ) (ms : List Macro) (k : ℕ) → distinct (map (λ m. m.name) ms) ≡ true → true ≡ is_named n (slice_get ms k) → Some k ≡ slot n ms
 hint_right n ms k h e =
-    sym (index_at n (map (λ m. m.name) ms) k h (nth-map (λ m. m.name) ms k ∙ named_some n (slice_get ms k) e))
+    sym (index_at n (map (λ m. m.name) ms) k h (slice_get-map (λ m. m.name) ms k ∙ named_some n (slice_get ms k) e))
 
 -- one more name
 
@@ -101,27 +101,18 @@ unlike_push ms os m p h e =
     ap (λ l. distinct (map (λ o. o.name) l)) p ∙ ap distinct (map_push (λ o. o.name) ms m) ∙ distinct_push (map (λ o. o.name) ms) m.name h (ap is_some e)
 
 -- a cell that is set for a name
-module _ (old new : List ℕ) (n : List ℕ) (k : ℕ) (here : get_or new (cell_of n) 0 ≡ hint_of k) (others : (i : ℕ) → (i ≡ cell_of n → ⊥) → get_or new i 0 ≡ get_or old i 0) where
-  set_here : not (eqb (get_or new (cell_of n) 0) 0) ≡ true
-  set_here = let z : eqb (hint_of k) 0 ≡ false = grind (arith, nat_tests) in ap (λ v. not (eqb v 0)) here ∙ ap not z
-
-  set_stays : (i : ℕ) → not (eqb (get_or old i 0) 0) ≡ true → not (eqb (get_or new i 0) 0) ≡ true
+module _ (old new : List (Option ℕ)) (n : List ℕ) (k : ℕ) (here : cell new (cell_of n) ≡ Some k) (others : (i : ℕ) → (i ≡ cell_of n → ⊥) → cell new i ≡ cell old i) where
+  set_stays : (i : ℕ) → is_some (cell old i) ≡ true → is_some (cell new i) ≡ true
   set_stays i h = stays (eqb i (cell_of n)) refl
     where
-      stays : (b : Bool) → eqb i (cell_of n) ≡ b → not (eqb (get_or new i 0) 0) ≡ true
-      stays true e = let p : i ≡ cell_of n = grind (arith, nat_tests) in ap (λ v. not (eqb (get_or new v 0) 0)) p ∙ set_here
-      stays false e = ap (λ v. not (eqb v 0)) (others i (λ p. both_ways (eqb i (cell_of n)) e (grind (arith, nat_tests)))) ∙ h
-
-  hinted_stays : (ws : List (List ℕ)) → hinted old ws ≡ true → hinted new ws ≡ true
-  hinted_stays [] h = refl
-  hinted_stays (w ∷ ws) h =
-      let parts = and_parts (not (eqb (get_or old (cell_of w) 0) 0)) (hinted old ws) h in
-      and_from _ _ (set_stays (cell_of w) parts.0) (hinted_stays ws parts.1)
+      stays : (b : Bool) → eqb i (cell_of n) ≡ b → is_some (cell new i) ≡ true
+      stays true e = let p : i ≡ cell_of n = grind (arith, nat_tests) in ap (λ v. is_some (cell new v)) p ∙ ap is_some here
+      stays false e = ap is_some (others i (λ p. both_ways (eqb i (cell_of n)) e (grind (arith, nat_tests)))) ∙ h
 
   hinted-push : (ws : List (List ℕ)) → hinted old ws ≡ true → hinted new (ws ++ n ∷ []) ≡ true
-  hinted-push [] h = and_from _ _ set_here refl
+  hinted-push [] h = and_from _ _ (ap is_some here) refl
   hinted-push (w ∷ ws) h =
-      let parts = and_parts (not (eqb (get_or old (cell_of w) 0) 0)) (hinted old ws) h in
+      let parts = and_parts (is_some (cell old (cell_of w))) (hinted old ws) h in
       and_from _ _ (set_stays (cell_of w) parts.0) (hinted-push ws parts.1)
 
   pub noted_push : (ms os : List Macro) (m : Macro) → os ≡ ms ++ m ∷ [] → m.name ≡ n → hinted old (map (λ o. o.name) ms) ≡ true → hinted new (map (λ o. o.name) os) ≡ true

@@ -4,6 +4,5 @@ pub mod Hinting
 pub mod Laying
 pub mod Lists
 pub mod Macros
-pub mod Rooms
 pub mod Same
 pub mod Stored

@@ -3,12 +3,12 @@ use Rattle.std.proofs.Common.{◌≡◌, ℕ, suc, ◌+◌, ◌<◌, ◌≤◌, 
 use Rattle.std.specs.List.{slice_get}
 use Rattle.std.specs.Option.{option_map}
 use Rattle.std.specs.Str.{bytes_eq}
-use Rattle.std.proofs.lemmas.List.{drop_all, drop_more, append-nil}
+use Rattle.std.proofs.lemmas.List.{drop_more}
 use Rattle.std.proofs.lemmas.Bool.{and_parts, and_from, leb-true, le-leb}
 use Rattle.token.specs.Tokens.{Token}
 use Rattle.definition.specs.Definitions.{Macro}
 use Rattle.definitions.specs.declared.entry.Entry.{Entry}
-use Rattle.definitions.specs.Blocks.{block_macro, block, macro_at}
+use Rattle.definitions.specs.Blocks.{macro_at}
 use Rattle.definitions.specs.InForce.{slot, found, size, sizes, list_token_count, fit, without}
 
 sizes-push : (ms : List Macro) (m : Macro) → sizes (ms ++ m ∷ []) ≡ sizes ms + size m
@@ -110,28 +110,10 @@ pub without_none : (n : List ℕ) (ms : List Macro) → is_some (slot n ms) ≡ 
 without_none n [] e = refl
 without_none n (m ∷ ms) e = without-step m ms (without n ms) (bytes_eq n m.name) (slot n ms) (without_none n ms) e
 
--- the definitions of other names, one by one
-module _ (n : List ℕ) (ts : List Token) (es : List Entry) (i : ℕ) (have : List Macro) (inv : have ++ without n (map (macro_at ts) (drop i es)) ≡ without n (map (macro_at ts) es)) (d : Entry) (h : i < length es) where
-  step : (b : Bool) → b ≡ bytes_eq n (macro_at ts (get_or es i d)).name → have ++ cond b (without n (map (macro_at ts) (drop (i + 1) es))) (macro_at ts (get_or es i d) ∷ without n (map (macro_at ts) (drop (i + 1) es))) ≡ without n (map (macro_at ts) es)
-  step b e =
-      let rest : List Macro = without n (map (macro_at ts) (drop (i + 1) es)) in
-      ap (λ q. have ++ cond q rest (macro_at ts (get_or es i d) ∷ rest)) e ∙ sym (ap (λ l. have ++ without n (map (macro_at ts) l)) (drop_more es i d h)) ∙ inv
-
-  pub left_out : true ≡ bytes_eq n (macro_at ts (get_or es i d)).name → (more : List Macro) → more ≡ have → more ++ without n (map (macro_at ts) (drop (i + 1) es)) ≡ without n (map (macro_at ts) es)
-  left_out e more q = ap (λ l. l ++ without n (map (macro_at ts) (drop (i + 1) es))) q ∙ step true e
-
-  module _ (e : false ≡ bytes_eq n (macro_at ts (get_or es i d)).name) (b : List Token) (is : b ≡ block ts (get_or es i d)) where
-    one_more : (have ++ block_macro b (get_or es i d).parameters ∷ []) ++ without n (map (macro_at ts) (drop (i + 1) es)) ≡ without n (map (macro_at ts) es)
-    one_more =
-        append_assoc have (block_macro b (get_or es i d).parameters ∷ []) (without n (map (macro_at ts) (drop (i + 1) es))) ∙ ap (λ l. have ++ (block_macro l (get_or es i d).parameters ∷ without n (map (macro_at ts) (drop (i + 1) es)))) is ∙ step false e
-
-    pub taken_on : (more : List Macro) → more ≡ have ++ block_macro b (get_or es i d).parameters ∷ [] → more ++ without n (map (macro_at ts) (drop (i + 1) es)) ≡ without n (map (macro_at ts) es)
-    taken_on more q = ap (λ l. l ++ without n (map (macro_at ts) (drop (i + 1) es))) q ∙ one_more
-
-    pub taken-fits : fit (map (macro_at ts) es) ≡ true → fit (have ++ block_macro b (get_or es i d).parameters ∷ []) ≡ true
-    taken-fits f =
-        fit-front (have ++ block_macro b (get_or es i d).parameters ∷ []) (without n (map (macro_at ts) (drop (i + 1) es))) (ap fit one_more ∙ fit-without n (map (macro_at ts) es) f)
-
-pub taken_all : (n : List ℕ) (ts : List Token) (es : List Entry) (i : ℕ) (have : List Macro) → have ++ without n (map (macro_at ts) (drop i es)) ≡ without n (map (macro_at ts) es) → length es ≤ i → have ≡ without n (map (macro_at ts) es)
-taken_all n ts es i have inv h =
-    sym (ap (λ l. have ++ without n (map (macro_at ts) l)) (drop_all i es h) ∙ append-nil have) ∙ inv
+-- where the definitions so far, and what stays of those that are left, make up what stays of all, one more fits
+pub taken-fits : (n : List ℕ) (ts : List Token) (es : List Entry) (i : ℕ) (have : List Macro) → have ++ without n (map (macro_at ts) (drop i es)) ≡ without n (map (macro_at ts) es) → (d : Entry) → i < length es → false ≡ bytes_eq n (macro_at ts (get_or es i d)).name → fit (map (macro_at ts) es) ≡ true → fit (have ++ macro_at ts (get_or es i d) ∷ []) ≡ true
+taken-fits n ts es i have inv d h e f =
+    let m = macro_at ts (get_or es i d) in
+    let rest : List Macro = without n (map (macro_at ts) (drop (i + 1) es)) in
+    let all = append_assoc have (m ∷ []) rest ∙ ap (λ b. have ++ cond b rest (m ∷ rest)) e ∙ sym (ap (λ l. have ++ without n (map (macro_at ts) l)) (drop_more es i d h)) ∙ inv in
+    fit-front (have ++ m ∷ []) rest (ap fit all ∙ fit-without n (map (macro_at ts) es) f)

@@ -51,22 +51,19 @@ module _ (s : Store) (b : List Token) (p : Option ℕ) (short : unwrap_or p 0 �
   block_held =
       let f = fit_parts (store_macros s) (block_macro b p) fits in
       let n = length-placed (table_tokens s.tokens) (vec_items s.entries) s.dense in
-      (omega (arith, f.0, f.1.0, n, count s, s.entries.ok.0, block-length b p short, s.tokens_room), omega (arith, f.1.1, bytes s, size-block b p, s.bytes_room))
-
-  pub slots_left : vec_len s.entries + 1 ≤ 256
-  slots_left = let f = fit_parts (store_macros s) (block_macro b p) fits in omega (arith, f.0, count s)
+      (omega (arith, f.0, f.1.0, n, count s, s.entries.ok.0, block-length b p short), omega (arith, f.1.1, bytes s, size-block b p))
 
   pub list-fits : s.list_tokens + length (block_macro b p).list ≤ 4096
   list-fits = let f = fit_parts (store_macros s) (block_macro b p) fits in omega (arith, f.1.0, s.listed)
 
-  module _ (ts : List Token) (laid-is : ts ≡ table_tokens s.tokens ++ b) (e : Entry) (start : e.start ≡ length (table_tokens s.tokens)) (len : e.len ≡ length b) (is : e.parameters ≡ p) (es : List Entry) (pushed : es ≡ vec_items s.entries ++ e ∷ []) where
+  module _ (ts : List Token) (laid-is : ts ≡ table_tokens s.tokens ++ b) (e : Entry) (start : e.block.start ≡ length (table_tokens s.tokens)) (len : e.block.len ≡ length b) (is : e.parameters ≡ p) (es : List Entry) (pushed : es ≡ vec_items s.entries ++ e ∷ []) where
     pub store_push : map (macro_at ts) es ≡ store_macros s ++ block_macro b p ∷ []
     store_push =
         (λ i. map (macro_at (laid-is i)) (pushed i)) ∙ macros-push (table_tokens s.tokens) b (vec_items s.entries) e s.dense start len ∙ ap (λ q. store_macros s ++ block_macro b q ∷ []) is
 
     pub dense_push : placed 0 es (length ts) ≡ true
     dense_push =
-        let n : length ts ≡ length (table_tokens s.tokens) + e.len = ap length laid-is ∙ length-append (table_tokens s.tokens) b ∙ ap (λ k. length (table_tokens s.tokens) + k) (sym len) in
+        let n : length ts ≡ length (table_tokens s.tokens) + e.block.len = ap length laid-is ∙ length-append (table_tokens s.tokens) b ∙ ap (λ k. length (table_tokens s.tokens) + k) (sym len) in
         (λ i. placed 0 (pushed i) (n i)) ∙ placed-push 0 (vec_items s.entries) _ e s.dense start (subst (λ q. unwrap_or q 0 ≤ 127) (sym is) short)
 
     pub listed_push : (k : ℕ) → k ≡ length (block_macro b p).list → list_token_count (map (macro_at ts) es) ≡ s.list_tokens + k
@@ -84,4 +81,4 @@ fit_store s m a b n k z p q r x y =
 
 pub store_fits : (s : Store) → fit (store_macros s) ≡ true
 store_fits s =
-    within-fit (store_macros s) (omega (arith, count s, s.few), (omega (arith, s.listed, s.short), omega (arith, bytes s, held_bytes s.tokens, s.tokens.short, s.bytes_room)))
+    within-fit (store_macros s) (omega (arith, count s, s.few), (omega (arith, s.listed, s.short), omega (arith, bytes s, held_bytes s.tokens, s.tokens.short)))

@@ -17,7 +17,7 @@ abbrev pub block_macro : List Token → Option ℕ → Macro
 block_macro b p = record { name = first_spelling b; parameters = option_map (λ n. spellings (take n (drop 1 b))) p; list = drop (unwrap_or p 0) (drop 1 b) }
 
 abbrev pub block : List Token → Entry → List Token
-block ts e = take e.len (drop e.start ts)
+block ts e = take e.block.len (drop e.block.start ts)
 
 abbrev pub macro_at : List Token → Entry → Macro
 macro_at ts e = block_macro (block ts e) e.parameters
@@ -26,4 +26,4 @@ macro_at ts e = block_macro (block ts e) e.parameters
 -- none has more than 127 parameters
 abbrev pub placed : ℕ → List Entry → ℕ → Bool
 placed at [] end = at == end
-placed at (e ∷ es) end = e.start == at && (nat_le (unwrap_or e.parameters 0) 127 && placed (at + e.len) es end)
+placed at (e ∷ es) end = e.block.start == at && (nat_le (unwrap_or e.parameters 0) 127 && placed (at + e.block.len) es end)

@@ -1,14 +1,18 @@
 -- What the hints say of the names in force. Assumes nothing.
-use Rattle.std.specs.Prelude.{ℕ, Bool, true, false, not, ◌&&◌, List, [], ◌∷◌, is_some, Some, None, Option, ◌==◌, slice_index}
+use Rattle.std.specs.Prelude.{ℕ, Bool, true, false, not, ◌&&◌, List, [], ◌∷◌, is_some, Some, None, Option, slice_index_or}
+use Rattle.std.specs.List.{list_all}
 use Rattle.std.specs.Str.{bytes_eq}
 use Rattle.definition.specs.Definitions.{Macro}
 use Rattle.definitions.specs.Hashes.{cell_of}
 use Rattle.definitions.specs.InForce.{index}
 
--- the cell of each name is not 0
-abbrev pub hinted : List ℕ → List (List ℕ) → Bool
-hinted cells [] = true
-hinted cells (w ∷ ws) = not (slice_index cells (cell_of w) == 0) && hinted cells ws
+-- the slot in a cell
+abbrev pub cell : List (Option ℕ) → ℕ → Option ℕ
+cell cells k = slice_index_or cells k None
+
+-- the cell of each name has a slot
+abbrev pub hinted : List (Option ℕ) → List (List ℕ) → Bool
+hinted cells ws = list_all (λ w. is_some (cell cells (cell_of w))) ws
 
 -- no name stands twice
 abbrev pub distinct : List (List ℕ) → Bool

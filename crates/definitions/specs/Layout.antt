@@ -4,11 +4,10 @@ use Rattle.std.specs.Option.{unwrap_or}
 use Rattle.std.specs.Str.{bytes_eq}
 use Rattle.token.specs.declared.Kind.TheVariants.{Identifier}
 use Rattle.token.specs.declared.table.TokenTable.{TokenTable}
-use Rattle.token.specs.Tables.{table_tokens, limit_of_tokens, limit_of_bytes}
+use Rattle.token.specs.Tables.{table_tokens}
 use Rattle.token.specs.Tokens.{Token}
 use Rattle.token.specs.Views.{spelled}
 use Rattle.definition.specs.Definitions.{Macro}
-use Rattle.definition.specs.Words.{word_of}
 use Rattle.definitions.specs.InForce.{same_mark}
 
 abbrev pub name_token : List ℕ → Token
@@ -25,22 +24,12 @@ abbrev pub laid : Macro → List Token
 laid m = name_token m.name ∷ parameter_tokens m.parameters ++ m.list
 
 -- whether tokens can be added to a table
-abbrev pub Holds : TokenTable → List Token → Type 0
-Holds t ts = (length (table_tokens t) + length ts ≤ limit_of_tokens t) × (spelled (table_tokens t) + spelled ts ≤ limit_of_bytes t)
+abbrev pub Holds : {n b : ℕ} → TokenTable n b → List Token → Type 0
+Holds {n} {b} t ts = (length (table_tokens t) + length ts ≤ n) × (spelled (table_tokens t) + spelled ts ≤ b)
 
 -- what is left of a room, where it is large enough
 abbrev pub left : ℕ → ℕ → Option ℕ
 left room n = cond (nat_le n room) (Some (room - n)) None
 
--- whether the first parameter is called so
-abbrev pub starts_called : List ℕ → List Token → Bool
-starts_called w [] = false
-starts_called w (t ∷ ts) = bytes_eq w (word_of t)
-
 abbrev pub same_token : Token → Token → Bool
 same_token t u = bytes_eq t.spelling u.spelling && same_mark t.marked u.marked
-
--- whether a token that is the same stands first
-abbrev pub starts_same : Token → List Token → Bool
-starts_same t [] = false
-starts_same t (u ∷ us) = same_token t u

@@ -1,7 +1,8 @@
 // Where the tokens of a definition lie: its name, its parameters and its list, one behind the other.
+use text::Extent;
+
 #[derive(Clone, Copy)]
 pub(crate) struct Entry {
-    pub(crate) start: usize,
-    pub(crate) len: usize,
+    pub(crate) block: Extent,
     pub(crate) parameters: Option<usize>,
 }

@@ -1,20 +1,22 @@
 // Guesses where a name stands among the definitions.
-ghost use Rattle.std.specs.Prelude.{◌≡◌, ℕ, ◌<◌, ◌≢◌, slice_index};
-ghost use Rattle.definitions.specs.Hashes.{mixed, cell_of, hint_of};
+ghost use Rattle.std.specs.Prelude.{◌≡◌, ℕ, ◌<◌, ◌≢◌, true, Some};
+ghost use Rattle.definitions.specs.Hashes.{mixed, cell_of};
+ghost use Rattle.definitions.specs.Hints.{cell, hinted};
+ghost use Rattle.definitions.specs.Stores.{store_names};
+
+use crate::store::Store;
 
 const CELLS: usize = 1024;
-
-const MOST_SLOTS: usize = 65_535;
 
 // The hash starts with this number, and is multiplied by the other with each byte.
 const START: u32 = 2_166_136_261;
 
 const FACTOR: u32 = 16_777_619;
 
-// A cell for each value of the hash: 0, or the slot that a name with this hash was given last, and one more.
+// A cell for each value of the hash: the slot that a name with this hash was given last.
 #[derive(Drop)]
 pub(crate) struct Hints {
-    pub(crate) cells: [u16; CELLS],
+    pub(crate) cells: [Option<usize>; CELLS],
 }
 
 fn mix(state: u32, byte: u8) -> u32
@@ -24,45 +26,49 @@ fn mix(state: u32, byte: u8) -> u32
 }
 
 // The cell of a name.
+#[tactic(auto, unfolding(crate::specs::Hashes::cell_of))]
 fn hash(name: &[u8]) -> usize
     ensures cell { result ≡ cell_of name.now }
     ensures within { result < 1024 }
 {
-    let mut state = START;
-    for byte in name {
-        state = mix(state, *byte);
-    }
-    state as usize % CELLS
-}
-
-// What a cell holds for a slot.
-fn hint_of(slot: usize) -> u16
-    ensures { result ≡ hint_of slot }
-{
-    (slot % MOST_SLOTS) as u16 + 1
+    name.iter().fold(START, |state, byte| mix(state, *byte)) as usize % CELLS
 }
 
 impl Hints {
     pub(crate) fn new() -> Hints {
-        Hints { cells: [0; CELLS] }
+        Hints {
+            cells: [None; CELLS],
+        }
     }
 
     pub(crate) fn clear(&mut self) {
-        self.cells = [0; CELLS];
+        self.cells = [None; CELLS];
     }
 
     // What the cell of the name holds.
-    pub(crate) fn get(&self, name: &[u8]) -> u16
-        ensures { result ≡ slice_index self.now.cells (cell_of name.now) }
+    pub(crate) fn get(&self, name: &[u8]) -> Option<usize>
+        ensures { result ≡ cell self.now.cells (cell_of name.now) }
     {
         self.cells[hash(name)]
     }
 
     // Notes the slot of the name.
     pub(crate) fn put(&mut self, name: &[u8], slot: usize)
-        ensures here { slice_index self.new.cells (cell_of name.now) ≡ hint_of slot }
-        ensures others { (k : ℕ) → (k ≢ cell_of name.now) → slice_index self.new.cells k ≡ slice_index self.old.cells k }
+        ensures here { cell self.new.cells (cell_of name.now) ≡ Some slot }
+        ensures others { (k : ℕ) → (k ≢ cell_of name.now) → cell self.new.cells k ≡ cell self.old.cells k }
     {
-        self.cells[hash(name)] = hint_of(slot);
+        self.cells[hash(name)] = Some(slot);
+    }
+
+    // Notes the slot of each name in the store, and no other.
+    pub(crate) fn note_all(&mut self, store: &Store)
+        ensures { hinted self.new.cells (store_names store.now) ≡ true }
+    {
+        self.clear();
+        for slot in 0..store.len() {
+            if let Some(stored) = store.get(slot) {
+                self.put(stored.name, slot);
+            }
+        }
     }
 }

@@ -3,15 +3,14 @@
 
 use token::Tokens;
 
+mod block;
+mod compare;
 mod definitions;
 mod entry;
-mod force;
 mod hints;
 mod lay;
 mod sizes;
 mod store;
-mod stores;
-mod views;
 
 pub use definitions::Definitions;
 

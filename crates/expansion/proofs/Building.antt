@@ -1,5 +1,5 @@
 -- The parts of a list, one after the other. Assumes nothing.
-use Rattle.std.proofs.Common.{◌≡◌, ℕ, zero, suc, ◌+◌, ◌-◌, ◌≤◌, Bool, true, false, cond, ◌||◌, ltb, List, [], ◌∷◌, ◌++◌, length, drop, is_some, Some, None, Option, sym, refl, ap, ◌∙◌, subst, inl, inr, append_assoc, append-nil, arith, length-append}
+use Rattle.std.proofs.Common.{◌≡◌, ℕ, zero, suc, ◌+◌, ◌-◌, ◌≤◌, Bool, true, false, cond, ◌||◌, ltb, List, [], ◌∷◌, ◌++◌, length, drop, is_some, Some, None, Option, unwrap_or, sym, refl, ap, ◌∙◌, subst, inl, inr, append_assoc, append-nil, arith, length-append}
 use Rattle.std.specs.List.{slice_get}
 use Rattle.std.specs.Option.{option_map}
 use Rattle.std.specs.Str.{bytes_eq}
@@ -15,7 +15,7 @@ use Rattle.replacement.specs.Joining.{Piece, piece, joiner, literal}
 use Rattle.replacement.specs.Replacing.{Expander, place, raw, argument_pieces, expanded, argument_of, operand_of, substituted, built, piece_bytes, limited_pieces}
 use Rattle.expansion.specs.declared.part.Part.{Part}
 use Rattle.expansion.specs.declared.part.Part.TheVariants.{Token, Join, Literal, Raw, Expanded}
-use Rattle.expansion.specs.Parts.{within, argument_at, substituted_part, literal_part, part_of, given, width, is_join_part, added_to}
+use Rattle.expansion.specs.Parts.{within, argument_at, substituted_part, part_of, given, width, is_join_part, added_to}
 use Rattle.expansion.proofs.Added.{over_pieces, piece-bytes-append}
 
 -- what a part gives
@@ -58,13 +58,13 @@ module _ (e : Expander) (line : ℕ) (args : List (List Item)) (t : PlainToken) 
     substituted-part beside (Some k) =
         substituted_at beside k (slice_get args k) refl ∙ ap (λ v. part_then next (substituted_part (cond v (Some k) None) beside)) (sym (index-within args k))
 
-    literal_at : (k : ℕ) (a : Option (List Item)) → slice_get args k ≡ a → (literal t line (operand_of a) left then next false 1) ≡ part_then next (literal_part (length args) (cond (is_some a) (Some k) None))
+    literal_at : (k : ℕ) (a : Option (List Item)) → slice_get args k ≡ a → (literal t line (operand_of a) left then next false 1) ≡ part_then next (Literal (unwrap_or (cond (is_some a) (Some k) None) (length args)))
     literal_at k None h = ap (λ o. literal t line (operand_of o) left then next false 1) (sym (slice_get_past args (length args) (omega arith)))
     literal_at k (Some a) h = ap (λ o. literal t line (operand_of o) left then next false 1) (sym h)
 
-    literal-part : (o : Option ℕ) → (literal t line (operand_of (elim o [ None ↦ None | Some k ↦ slice_get args k ])) left then next false 1) ≡ part_then next (literal_part (length args) (within (length args) o))
+    literal-part : (o : Option ℕ) → (literal t line (operand_of (elim o [ None ↦ None | Some k ↦ slice_get args k ])) left then next false 1) ≡ part_then next (Literal (unwrap_or (within (length args) o) (length args)))
     literal-part None = ap (λ o. literal t line (operand_of o) left then next false 1) (sym (slice_get_past args (length args) (omega arith)))
-    literal-part (Some k) = literal_at k (slice_get args k) refl ∙ ap (λ v. part_then next (literal_part (length args) (cond v (Some k) None))) (sym (index-within args k))
+    literal-part (Some k) = literal_at k (slice_get args k) refl ∙ ap (λ v. part_then next (Literal (unwrap_or (cond v (Some k) None) (length args)))) (sym (index-within args k))
 
 -- the place of a word among words, counted from a number on
 counted_from : (k : ℕ) (o : Option ℕ) → option_map (λ j. suc k + j) o ≡ option_map (λ j. k + j) (option_map suc o)
@@ -117,12 +117,12 @@ module _ (e : Expander) (line : ℕ) (args : List (List Item)) where
           | true ↦ literal t line (operand_of (argument_of ps args u)) left then (λ n. built e line (Some ps) args false n ts)
           | false ↦ substituted e line (joins || join u) t (argument_of ps args t) left then (λ n. built e line (Some ps) args false n (u ∷ ts))
         ]
-      ] ≡ part_then e line args t left (behind (Some ps) (u ∷ ts)) (cond v Join (cond (hash t) (literal_part (length args) (argument_at ps (length args) u)) (substituted_part (argument_at ps (length args) t) (joins || join u))))) [
+      ] ≡ part_then e line args t left (behind (Some ps) (u ∷ ts)) (cond v Join (cond (hash t) (Literal (unwrap_or (argument_at ps (length args) u) (length args))) (substituted_part (argument_at ps (length args) t) (joins || join u))))) [
         | true ↦ refl
         | false ↦ elim (hash t) as (λ w. elim w [
           | true ↦ literal t line (operand_of (argument_of ps args u)) left then (λ n. built e line (Some ps) args false n ts)
           | false ↦ substituted e line (joins || join u) t (argument_of ps args t) left then (λ n. built e line (Some ps) args false n (u ∷ ts))
-        ] ≡ part_then e line args t left (behind (Some ps) (u ∷ ts)) (cond w (literal_part (length args) (argument_at ps (length args) u)) (substituted_part (argument_at ps (length args) t) (joins || join u)))) [
+        ] ≡ part_then e line args t left (behind (Some ps) (u ∷ ts)) (cond w (Literal (unwrap_or (argument_at ps (length args) u) (length args))) (substituted_part (argument_at ps (length args) t) (joins || join u)))) [
           | true ↦ ap (λ o. literal t line (operand_of (at_place o)) left then (λ n. built e line (Some ps) args false n ts)) (place_index u.spelling ps) ∙ literal-part e line args t left (behind (Some ps) (u ∷ ts)) (index u.spelling ps)
           | false ↦ ap (λ o. substituted e line (joins || join u) t (at_place o) left then (λ n. built e line (Some ps) args false n (u ∷ ts))) (place_index t.spelling ps) ∙ substituted-part e line args t left (behind (Some ps) (u ∷ ts)) (joins || join u) (index t.spelling ps)
         ]

@@ -24,7 +24,7 @@ use Rattle.steps.specs.declared.prepared.Call.{Call}
 use Rattle.steps.specs.declared.prepared.Handed.{Handed}
 use Rattle.steps.specs.declared.prepared.Prepared.{Prepared}
 use Rattle.steps.specs.declared.prepared.Prepared.TheVariants.{End, Hand, Replace}
-use Rattle.steps.specs.declared.class.Name.{Name as NameAt}
+use Rattle.item.specs.declared.Name.{Name as NameAt}
 use Rattle.steps.specs.declared.prepared.Handed.TheVariants.{Front, Name, BuiltIn}
 use Rattle.steps.specs.Handing.{in_place, named_items, handed_items, taken}
 use Rattle.steps.specs.Steps.{State, Preparing, Failing, Falling, result_of, behind, moved}
@@ -65,16 +65,16 @@ module _ (ms : List Macro) (file : List ℕ) (n : ℕ) (end : Ends) (s t : State
       handed ms file n end s t is (taken h) (k (levels ms file n) (expanding ms file n end)) ∙ (λ i. prepend is (from ms file n end (record { left = t.left; w = sym d.first i; run = sym d.then i })))
 
   -- the result of a macro
-  pub step_replaced : (p : Prepared) (c : Call) (m left : ℕ) (w : List (Tagged HideSet)) → Preparing ms file end s t args (Ok p) → p ≡ Replace c → m ≡ n → moved (expanding ms file n end) (before c.line (items_of ms t.w) (items_of ms t.run) (result_of (levels ms file m) ms args c t.left)) ≡ expanding ms file n end left (items_of ms w) (items_of ms t.run) → from ms file n end s ≡ from ms file n end (record { left = left; w = w; run = t.run })
+  pub step_replaced : (p : Prepared) (c : Call) (m left : ℕ) (w : List (Tagged HideSet)) → Preparing ms file end s t args (Ok p) → p ≡ Replace c → m ≡ n → moved (expanding ms file n end) (before c.name.line (items_of ms t.w) (items_of ms t.run) (result_of (levels ms file m) ms args c t.left)) ≡ expanding ms file n end left (items_of ms w) (items_of ms t.run) → from ms file n end s ≡ from ms file n end (record { left = left; w = w; run = t.run })
   step_replaced p c m left w g e deep h =
       let k = subst (λ q. Preparing ms file end s t args (Ok q)) e g in
-      let b = λ (l : ℕ). before c.line (items_of ms t.w) (items_of ms t.run) (result_of (levels ms file l) ms args c t.left) in
+      let b = λ (l : ℕ). before c.name.line (items_of ms t.w) (items_of ms t.run) (result_of (levels ms file l) ms args c t.left) in
       replaced ms file n end s (record { left = left; w = w; run = t.run }) (b n) (k (levels ms file n) (expanding ms file n end)) (ap (λ l. moved (expanding ms file n end) (b l)) (sym deep) ∙ h)
 
-  pub step_unplaced : (p : Prepared) (c : Call) (m : ℕ) (f : Fault) → Preparing ms file end s t args (Ok p) → p ≡ Replace c → m ≡ n → Failing (moved (expanding ms file n end) (before c.line (items_of ms t.w) (items_of ms t.run) (result_of (levels ms file m) ms args c t.left))) f → Failing (from ms file n end s) f
+  pub step_unplaced : (p : Prepared) (c : Call) (m : ℕ) (f : Fault) → Preparing ms file end s t args (Ok p) → p ≡ Replace c → m ≡ n → Failing (moved (expanding ms file n end) (before c.name.line (items_of ms t.w) (items_of ms t.run) (result_of (levels ms file m) ms args c t.left))) f → Failing (from ms file n end s) f
   step_unplaced p c m f g e deep h =
       let k = subst (λ q. Preparing ms file end s t args (Ok q)) e g in
-      let b = λ (l : ℕ). before c.line (items_of ms t.w) (items_of ms t.run) (result_of (levels ms file l) ms args c t.left) in
+      let b = λ (l : ℕ). before c.name.line (items_of ms t.w) (items_of ms t.run) (result_of (levels ms file l) ms args c t.left) in
       failed_result ms file n end s (b n) f (k (levels ms file n) (expanding ms file n end)) (subst (λ l. Failing (moved (expanding ms file n end) (b l)) f) deep h)
 
   pub step_failed : (f : Fault) → Preparing ms file end s t args (Err f) → Failing (from ms file n end s) f

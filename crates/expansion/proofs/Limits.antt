@@ -1,10 +1,10 @@
 -- Expanded arguments and their limits. Assumes nothing.
-use Rattle.std.proofs.Common.{◌≡◌, ℕ, true, false, cond, ltb, List, [], ◌++◌, length, ap, ◌∙◌, ⊎_elim, arith}
+use Rattle.std.proofs.Common.{◌≡◌, ℕ, true, false, cond, List, [], ◌++◌, ap, ◌∙◌, arith}
 use Rattle.std.proofs.lemmas.List.{append-nil, length-append}
-use Rattle.std.proofs.lemmas.Bool.{or_left, or_right, or_cases, ltb-true, lt-ltb}
+use Rattle.std.proofs.lemmas.Bool.Decides.{nat_tests}
 use Rattle.text.specs.declared.Fault.{Fault}
 use Rattle.source.specs.declared.Ending.TheVariants.{Fails}
-use Rattle.replacement.specs.Items.{Item, Outcome, giving, failing, whole, fault, bytes, over, limited}
+use Rattle.replacement.specs.Items.{Item, Outcome, giving, failing, whole, fault, over, limited}
 use Rattle.replacement.specs.Meaning.{end_of}
 use Rattle.operators.proofs.Sized.{item_bytes-append}
 use Rattle.steps.specs.Steps.{Failing}
@@ -23,11 +23,8 @@ limited_fault line is o p f fits before end =
     ap (λ b. (cond b (failing 64 line o.left) o).ending) some ∙ ap (λ x. x.ending) before ∙ end.1
 
 -- once over, longer lists are over too
-pub over_longer : (is js : List Item) → over is ≡ true → over (is ++ js) ≡ true
-over_longer is js h =
-    let longer : ltb 1024 (length is) ≡ true → ltb 1024 (length (is ++ js)) ≡ true = λ e. lt-ltb _ _ (simp length-append (omega (arith, ltb-true 1024 (length is) e))) in
-    let larger : ltb 16384 (bytes is) ≡ true → ltb 16384 (bytes (is ++ js)) ≡ true = λ e. lt-ltb _ _ (omega (arith, item_bytes-append is js, ltb-true 16384 (bytes is) e)) in
-    ⊎_elim (λ e. or_left _ _ (longer e)) (λ e. or_right _ _ (larger e)) (or_cases (ltb 1024 (length is)) (ltb 16384 (bytes is)) h)
+over_longer : (is js : List Item) → over is ≡ true → over (is ++ js) ≡ true
+over_longer is js h = grind (arith, nat_tests, length-append is js, item_bytes-append is js)
 
 -- too many tokens are fault 64, whatever follows
 pub limited-over : (line : ℕ) (is : List Item) (o p : Outcome Item) → over is ≡ true → o ≡ prepend is p → (limited line o).ending ≡ fault 64 line

@@ -23,9 +23,9 @@ arguments_alike e line None args joins left ts = built-plain e line [] args join
 arguments_alike e line (Some ps) args joins left ts = refl
 
 -- by the definition as it is stored
-pub pieces_are : (e : Expander) (args : List (List Item)) (c : Call) (left : ℕ) (o : Option Macro) (d : Stored) → Some (stored_macro d) ≡ o → pieces_for e args c left o ≡ limited_pieces c.line (built e c.line (option_map (λ v. spellings (view_tokens v)) d.parameters) args false left (view_tokens d.list))
+pub pieces_are : (e : Expander) (args : List (List Item)) (c : Call) (left : ℕ) (o : Option Macro) (d : Stored) → Some (stored_macro d) ≡ o → pieces_for e args c left o ≡ limited_pieces c.name.line (built e c.name.line (option_map (λ v. spellings (view_tokens v)) d.parameters) args false left (view_tokens d.list))
 pieces_are e args c left o d h =
-    ap (pieces_for e args c left) (sym h) ∙ ap (limited_pieces c.line) (arguments_alike e c.line (option_map (λ v. spellings (view_tokens v)) d.parameters) args false left (view_tokens d.list))
+    ap (pieces_for e args c left) (sym h) ∙ ap (limited_pieces c.name.line) (arguments_alike e c.name.line (option_map (λ v. spellings (view_tokens v)) d.parameters) args false left (view_tokens d.list))
 
 -- an argument by other names
 pub argument_same : (ms : List Macro) (file : List ℕ) (m n line left k : ℕ) (is : List Item) (args args' : List (List Item)) → m ≡ n → is ≡ operand_of (slice_get args' k) → args' ≡ args → limited line (levels ms file m line left is) ≡ limited line (levels ms file n line left (operand_of (slice_get args k)))

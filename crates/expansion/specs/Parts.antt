@@ -1,5 +1,5 @@
 -- What the tokens of a replacement list become. Assumes nothing.
-use Rattle.std.specs.Prelude.{◌≡◌, ℕ, Bool, true, false, cond, ◌||◌, List, [], ◌∷◌, map, Some, None, Option, nat_lt}
+use Rattle.std.specs.Prelude.{◌≡◌, ℕ, Bool, true, false, cond, ◌||◌, List, [], ◌∷◌, map, Some, None, Option, unwrap_or, nat_lt}
 use Rattle.std.specs.List.{slice_get}
 use Rattle.token.specs.declared.Kind.TheVariants.{Other}
 use Rattle.token.specs.Tokens.{Token as PlainToken}
@@ -29,17 +29,13 @@ abbrev pub substituted_part : Option ℕ → Bool → Part
 substituted_part None beside = Token
 substituted_part (Some k) beside = cond beside (Raw k) (Expanded k)
 
--- a literal is made of no tokens where no argument is told
-abbrev pub literal_part : ℕ → Option ℕ → Part
-literal_part n None = Literal n
-literal_part n (Some k) = Literal k
-
--- a token of a list and the one behind it, for so many arguments and with whether ## stands before it
+-- a token of a list and the one behind it, for so many arguments and with whether ## stands before it; no argument has
+-- the index n, so that # makes a literal of no tokens where no parameter follows
 abbrev pub part_of : Option (List (List ℕ)) → ℕ → Bool → PlainToken → Option PlainToken → Part
 part_of None n joins t next = cond (join t) Join Token
 part_of (Some ps) n joins t None = cond (join t) Join (substituted_part (argument_at ps n t) joins)
 part_of (Some ps) n joins t (Some u) =
-    cond (join t) Join (cond (hash t) (literal_part n (argument_at ps n u)) (substituted_part (argument_at ps n t) (joins || join u)))
+    cond (join t) Join (cond (hash t) (Literal (unwrap_or (argument_at ps n u) n)) (substituted_part (argument_at ps n t) (joins || join u)))
 
 -- what a part gives for the arguments; one that is expanded has been expanded to these tokens
 abbrev pub given : ℕ → List (List Item) → List Item → PlainToken → ℕ → Part → Outcome Piece

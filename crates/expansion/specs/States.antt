@@ -21,13 +21,11 @@ use Rattle.steps.specs.Contexts.{macros, file_of}
 use Rattle.steps.specs.Steps.{State, arguments_for, moved, Failing}
 use Rattle.expansion.specs.declared.expansion.Expansion.{Expansion}
 use Rattle.expansion.specs.declared.level.Level.{Level}
-use Rattle.expansion.specs.declared.next.Next.{Next}
-use Rattle.expansion.specs.declared.next.Next.TheVariants.{Token, End}
 
 -- the result of a macro before joining
 abbrev pub pieces_for : Expander → List (List Item) → Call → ℕ → Option Macro → Outcome Piece
 pieces_for e args c left None = giving [] left
-pieces_for e args c left (Some m) = limited_pieces c.line (built e c.line m.parameters (arguments_for m.parameters args) false left m.list)
+pieces_for e args c left (Some m) = limited_pieces c.name.line (built e c.name.line m.parameters (arguments_for m.parameters args) false left m.list)
 
 -- what a level holds, for the definitions of a context
 abbrev pub waiting_in : Context → Level → List Item
@@ -79,13 +77,8 @@ Overfull (Fails f) = f.kind ≡ ManyTokens
 
 -- What an answer says of the expansion from the state before it, with the state behind it: its first token is handed on;
 -- or it has no token and ends so; or no table may hold its first token, and a fault says so.
-abbrev pub Advancing : List Macro → List ℕ → Ends → State → State → List (Tagged HideSet) → Next → Type 0
-Advancing ms file end s t xs Token =
+abbrev pub Advancing : List Macro → List ℕ → Ends → State → State → List (Tagged HideSet) → Result (Unit {0}) Ending → Type 0
+Advancing ms file end s t xs (Ok u) =
     (expanding_from ms file end s ≡ (giving (items_of ms xs) t.left then (λ n. expanding_from ms file end (record { left = n; w = t.w; run = t.run })))) × (length xs ≡ 1)
-Advancing ms file end s t xs (End e) =
+Advancing ms file end s t xs (Err e) =
     (is_long (expanding_from ms file end s) ≡ false → ((expanding_from ms file end s).items ≡ []) × ((expanding_from ms file end s).ending ≡ end_of e) × (e ≡ Whole → (expanding_from ms file end s).left ≡ t.left)) × (is_long (expanding_from ms file end s) ≡ true → Overfull e)
-
--- a fault ends the expansion
-abbrev pub next_of : Result Next Fault → Next
-next_of (Ok n) = n
-next_of (Err f) = End (Fails f)

@@ -12,7 +12,7 @@ ghost use Rattle.expansion.specs.States.{waiting_in, arguments_of, expander, Mat
 
 use crate::level::Level;
 use crate::part::{Part, part_of};
-use crate::pieces::{add_part, fault_at};
+use crate::pieces::add_part;
 use invocation::TableRun;
 use item::{HideSet, TagTable, TagView};
 use operators::place_result;
@@ -28,7 +28,7 @@ pub(crate) fn replace(
     below: &mut [Level],
     left: u32,
 ) -> Result<u32, Fault>
-    ensures result { (next : Turn) (run : List Item) → Moving next (before call.line (waiting_in context.entry level.old) run (result_of (expander context.entry below.old) (macros context.entry) (arguments_of context.entry level.old) call left)) (waiting_in context.entry level.new) run result }
+    ensures result { (next : Turn) (run : List Item) → Moving next (before call.name.line (waiting_in context.entry level.old) run (result_of (expander context.entry below.old) (macros context.entry) (arguments_of context.entry level.old) call left)) (waiting_in context.entry level.new) run result }
     ensures fewer { Fewer left result }
 {
     let left = build(context, call, level, below, left)?;
@@ -36,13 +36,11 @@ pub(crate) fn replace(
         &level.pieces,
         &mut level.joined,
         &mut level.spelling,
-        call.line,
-        call.hides,
-        call.marked,
+        call.name,
         &mut level.w,
     ) {
         Ok(()) => Ok(left),
-        Err(kind) => Err(fault_at(kind, call.line)),
+        Err(kind) => Err(kind.at(call.name.line)),
     }
 }
 
@@ -76,24 +74,26 @@ fn build(
         if let Part::Expanded(index) = part {
             left = expand_argument(
                 context,
-                call.line,
+                call.name.line,
                 level.arguments.get(index),
                 below,
                 &mut level.expanded,
                 left,
             )?;
         }
-        add_part(
+        if let Err(kind) = add_part(
             part,
             token,
-            call.line,
+            call.name.line,
             &level.arguments,
             &level.expanded,
             &mut level.spelling,
             &mut level.pieces,
-        )?;
+        ) {
+            return Err(kind.at(call.name.line));
+        }
         joins = part.is_join();
-        rest = rest.part(part.width(), rest.len());
+        rest = rest.behind(part.width());
     }
     Ok(left)
 }
@@ -111,7 +111,7 @@ fn expand_argument(
     ensures { Matches (limited line (expander context.entry scratch.old line left (items_of (macros context.entry) (shown argument.entry)))) (items_of (macros context.entry) (held to.new)) result }
 {
     let Some((level, below)) = scratch.split_first_mut() else {
-        return Err(fault_at(FaultKind::DeepArguments, line));
+        return Err(FaultKind::DeepArguments.at(line));
     };
     level.w.clear();
     to.clear();
@@ -127,15 +127,16 @@ fn expand_argument(
         )? {
             Prepared::End => return Ok(left),
             Prepared::Hand(handed) => {
-                if !hand_on(
+                let pushed = hand_on(
                     context,
                     handed,
                     &mut level.w,
                     &mut run,
                     &mut level.spelling,
                     to,
-                ) {
-                    return Err(fault_at(FaultKind::ManyTokens, line));
+                );
+                if pushed.is_err() {
+                    return Err(FaultKind::ManyTokens.at(line));
                 }
             }
             Prepared::Replace(call) => left = replace(context, call, level, below, left)?,

@@ -2,6 +2,7 @@
 use invocation::Arguments;
 use item::{HideSet, TagTable};
 use operators::{Role, Spelling};
+use std::alloc::{AllocError, Global};
 
 // W, the arguments of the macro at work, its result before joining and behind it, an argument that is being expanded,
 // and a spelling that is being made.
@@ -13,4 +14,22 @@ pub(crate) struct Level {
     pub(crate) joined: TagTable<HideSet>,
     pub(crate) expanded: TagTable<HideSet>,
     pub(crate) spelling: Spelling,
+}
+
+impl Level {
+    ghost use Rattle.std.specs.Prelude.{◌≡◌, [], IfOk};
+    ghost use Rattle.invocation.specs.Fronts.{waiting};
+
+    pub(crate) fn new(heap: Global) -> Result<Level, AllocError>
+        ensures { IfOk result (λ l. waiting l.w ≡ []) }
+    {
+        Ok(Level {
+            w: TagTable::new(heap)?,
+            arguments: Arguments::new(heap)?,
+            pieces: TagTable::new(heap)?,
+            joined: TagTable::new(heap)?,
+            expanded: TagTable::new(heap)?,
+            spelling: Spelling::new(heap)?,
+        })
+    }
 }

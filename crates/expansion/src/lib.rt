@@ -4,10 +4,7 @@
 mod build;
 mod expansion;
 mod level;
-mod levels;
-mod next;
 mod part;
 mod pieces;
 
 pub use expansion::Expansion;
-pub use next::Next;

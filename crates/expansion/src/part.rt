@@ -3,14 +3,14 @@ ghost use Rattle.std.specs.Prelude.{◌≡◌, map};
 ghost use Rattle.std.specs.Option.{option_map};
 ghost use Rattle.token.specs.Tables.{referred};
 ghost use Rattle.token.specs.Views.{view_tokens};
-ghost use Rattle.expansion.specs.Parts.{argument_at, substituted_part, literal_part, part_of, width, is_join_part};
+ghost use Rattle.expansion.specs.Parts.{argument_at, substituted_part, part_of, width, is_join_part};
 
 use definition::{is_hash, is_join};
 use steps::index_of;
 use token::{TokenRef, Tokens};
 
 // An argument is told by its index.
-#[derive(Clone, Copy)]
+#[derive(Clone, Copy, PartialEq, Debug)]
 pub(crate) enum Part {
     Token,
     Join,
@@ -39,7 +39,8 @@ pub(crate) fn part_of(
         return substituted(argument_of(parameters, arguments, token), joins);
     };
     if is_hash(token) {
-        return literal_of(argument_of(parameters, arguments, next), arguments);
+        // No argument has the index `arguments`: where no parameter follows, # makes a literal of no tokens.
+        return Part::Literal(argument_of(parameters, arguments, next).unwrap_or(arguments));
     }
     substituted(
         argument_of(parameters, arguments, token),
@@ -51,33 +52,17 @@ pub(crate) fn part_of(
 fn argument_of(parameters: Tokens<'_>, arguments: usize, token: TokenRef<'_>) -> Option<usize>
     ensures { result ≡ argument_at (map (λ t. t.spelling) (view_tokens parameters.entry)) arguments (referred token.entry) }
 {
-    let index = index_of(parameters, token.spelling)?;
-    if index < arguments { Some(index) } else { None }
+    index_of(parameters, token.spelling).filter(|index| *index < arguments)
 }
 
-// # makes a literal of the argument; of no tokens where none is told.
-fn literal_of(argument: Option<usize>, arguments: usize) -> Part
-    ensures { result ≡ literal_part arguments argument }
-{
-    match argument {
-        Some(index) => Part::Literal(index),
-        None => Part::Literal(arguments),
-    }
-}
-
-// A token that is no operator: a parameter beside ## becomes its argument as it stands, any other its argument expanded.
+// A token that is no operator: a parameter beside ## becomes its argument, any other its argument expanded.
 fn substituted(argument: Option<usize>, beside: bool) -> Part
     ensures { result ≡ substituted_part argument beside }
 {
-    match argument {
-        None => Part::Token,
-        Some(index) => {
-            if beside {
-                Part::Raw(index)
-            } else {
-                Part::Expanded(index)
-            }
-        }
+    match (argument, beside) {
+        (None, _) => Part::Token,
+        (Some(index), true) => Part::Raw(index),
+        (Some(index), false) => Part::Expanded(index),
     }
 }
 

@@ -3,10 +3,11 @@
 #![tactic(auto)]
 
 use lexer::{LineTokens, next_tokens};
-use shelf::{Entry, Extent, PackShelf, Shelf, TableShelf};
-use source::{Ending, FileSource, Line, NextLine, Reader, Source};
+use shelf::{Catalog, Entry, Extent, Shelf};
+use source::{Ending, FileSource, Line, Reader, Source};
 use std::alloc::{AllocError, Global};
 use std::io;
+use text::Fault;
 
 const NAME: &[u8] = b"plan.c";
 
@@ -34,7 +35,7 @@ fn read_all<B: Source + Drop>(heap: Global, mut reader: Reader<B>) -> Result<Out
     let mut tokens = LineTokens::new(heap)?;
     let mut count = 0usize;
     loop {
-        if let NextLine::End(ending) = next_tokens(&mut reader, &mut line, &mut tokens) {
+        if let Err(ending) = next_tokens(&mut reader, &mut line, &mut tokens) {
             return Ok(Outcome {
                 tokens: count,
                 ending,
@@ -53,13 +54,8 @@ fn report<S: Shelf>(rt: &HostRuntime, label: &str, make: &str, shelf: &S) -> io:
     let tokens = outcome.tokens;
     match outcome.ending {
         Ending::Whole => println!(rt; "{label}, {make}: {tokens} tokens, end"),
-        Ending::Fails(fault) => {
-            let number = fault.kind.number();
-            let phase = fault.kind.phase();
-            let line = fault.line;
-            println!(rt;
-                "{label}, {make}: {tokens} tokens, fault {number} phase {phase} line {line}"
-            )
+        Ending::Fails(Fault { kind, line }) => {
+            println!(rt; "{label}, {make}: {tokens} tokens, {kind} line {line}")
         }
     }
 }
@@ -89,7 +85,7 @@ impl Case<'_> {
             start: NAME.len(),
             len,
         };
-        let shelf = TableShelf::new(rt.alloc(), &bytes, &[Entry { name, content }])?;
+        let shelf = Catalog::from_table(rt.alloc(), &bytes, &[Entry { name, content }])?;
         report(rt, self.label, "table", &shelf)
     }
 
@@ -103,7 +99,7 @@ impl Case<'_> {
         let mut pack = Vec::from_slice(rt.alloc(), b"\x06plan.c")?;
         pack.extend_from_slice(&len.to_be_bytes())?;
         pack.extend_from_slice(&content)?;
-        let shelf = PackShelf::new(rt.alloc(), &pack)?;
+        let shelf = Catalog::from_pack(rt.alloc(), &pack)?;
         report(rt, self.label, "pack", &shelf)
     }
 

@@ -1,5 +1,5 @@
 -- Gathering up to the matching parenthesis, one token on. Assumes nothing.
-use Rattle.std.proofs.Common.{◌≡◌, ℕ, zero, suc, ◌+◌, ◌-◌, ◌<◌, ◌≤◌, Bool, true, false, cond, ◌&&◌, ◌||◌, ltb, leb, List, [], ◌∷◌, ◌++◌, length, take, drop, Some, None, codes, sym, refl, ap, ◌∙◌, subst, append_assoc, append-nil, add_assoc, zero-add, arith, length-append}
+use Rattle.std.proofs.Common.{◌≡◌, ℕ, zero, suc, ◌+◌, ◌-◌, ◌<◌, ◌≤◌, Bool, true, false, cond, ◌&&◌, ◌||◌, ltb, leb, List, [], ◌∷◌, ◌++◌, length, take, drop, Some, None, Ok, Err, Result, codes, sym, refl, ap, ◌∙◌, subst, append_assoc, append-nil, add_assoc, zero-add, arith, length-append}
 use mathlib.Core.List.{map-append}
 use lib.ListN.{length-map}
 use Rattle.std.specs.List.{slice_get}
@@ -16,8 +16,8 @@ use Rattle.replacement.specs.Items.{Item, over}
 use Rattle.replacement.specs.Meaning.{item_of, items_of}
 use Rattle.replacement.specs.Replacing.{Gathered, and_inside, gathered, opens, closes}
 use Rattle.invocation.specs.declared.bracket.Bracket.TheVariants.{Opens, Closes, Inner}
-use Rattle.invocation.specs.declared.bracket.Gathered as ended
-use Rattle.invocation.specs.declared.bracket.Gathered.TheVariants.{Closed, Open, Full}
+use Rattle.invocation.specs.declared.bracket.GatherError.{GatherError}
+use Rattle.invocation.specs.declared.bracket.GatherError.TheVariants.{Open, Full}
 use Rattle.invocation.specs.Calls.{Gathering, end_before}
 use Rattle.invocation.specs.Fronts.{bracket, bracket_of, depth_behind}
 
@@ -42,11 +42,11 @@ chosen a b depth i is =
     ]
 
 -- the end before a token is a closing parenthesis with none open
-ended_closes : (a b : Bool) (t : HideSet) (depth : ℕ) (r : ended.Gathered) → Some r ≡ end_before depth (cond a Opens (cond b (Closes t) Inner)) → (b ≡ true) × (depth ≡ 0) × (r ≡ Closed t)
+ended_closes : (a b : Bool) (t : HideSet) (depth : ℕ) (r : Result HideSet GatherError) → Some r ≡ end_before depth (cond a Opens (cond b (Closes t) Inner)) → (b ≡ true) × (depth ≡ 0) × (r ≡ Ok t)
 ended_closes true b t depth r e = let z : ◌≡◌ {A = ℕ} 0 1 = cc in absurd (omega arith)
 ended_closes false true t zero r e = (refl, refl, cc)
 ended_closes false true t (suc d) r e =
-    let no : Some r ≡ None = e ∙ cond-false _ (Some (Closed t)) None (ne_eqb (suc d) 0 (λ z. omega arith)) in
+    let no : Some r ≡ None = e ∙ cond-false _ (Some (Ok t)) None (ne_eqb (suc d) 0 (λ z. omega arith)) in
     let z : ◌≡◌ {A = ℕ} 0 1 = cc in
     absurd (omega arith)
 ended_closes false false t depth r e = let z : ◌≡◌ {A = ℕ} 0 1 = cc in absurd (omega arith)
@@ -59,13 +59,13 @@ more_chosen false true t (suc d) i is one e = let less : d ≡ suc d - 1 = omega
 more_chosen false false t depth i is one e = refl
 
 module _ (all within : List (Tagged HideSet)) (depth : ℕ) where
-  pub gathering_ended : (xs : List (Tagged HideSet)) (r : ended.Gathered) → Continues all within depth xs → Some r ≡ end_before depth (bracket (slice_get xs 0)) → (ms : List Macro) → Gathering ms all r within
+  pub gathering_ended : (xs : List (Tagged HideSet)) (r : Result HideSet GatherError) → Continues all within depth xs → Some r ≡ end_before depth (bracket (slice_get xs 0)) → (ms : List Macro) → Gathering ms all r within
   gathering_ended [] r h e ms =
-      let P : ended.Gathered → Type 0 = λ s. Gathering ms all s within in
-      let is : Open ≡ r = cc in
+      let P : Result HideSet GatherError → Type 0 = λ s. Gathering ms all s within in
+      let is : Err Open ≡ r = cc in
       subst P is (ap (λ g. g.inside) (h ms) ∙ append-nil _, ap (λ g. g.close) (h ms))
   gathering_ended (x ∷ xs) r h e ms =
-      let P : ended.Gathered → Type 0 = λ s. Gathering ms all s within in
+      let P : Result HideSet GatherError → Type 0 = λ s. Gathering ms all s within in
       let i = item_of ms x in
       let at = ended_closes (opens i) (closes i) x.tag depth r e in
       let is = h ms ∙ (λ j. onto (items_of ms within) (chosen (opens i) (at.0 j) (at.1 j) i (items_of ms xs))) in
@@ -92,7 +92,7 @@ over_more ms xs more e =
     let size : bytes xs ≤ items.bytes (items_of ms xs ++ more) = omega (arith, bytes_items ms xs more) in
     not_fit (length xs) _ (bytes xs) _ tokens size e
 
-pub gathering_full : (all within xs : List (Tagged HideSet)) (depth : ℕ) → Continues all within depth xs → None ≡ end_before depth (bracket (slice_get xs 0)) → false ≡ fit (within ++ take 1 xs) → (ms : List Macro) → Gathering ms all Full within
+pub gathering_full : (all within xs : List (Tagged HideSet)) (depth : ℕ) → Continues all within depth xs → None ≡ end_before depth (bracket (slice_get xs 0)) → false ≡ fit (within ++ take 1 xs) → (ms : List Macro) → Gathering ms all (Err Full) within
 gathering_full all within xs depth h e f ms =
     ap (λ g. over g.inside) (continues_more all within depth xs h e ms) ∙ over_more ms (within ++ take 1 xs) _ f
 

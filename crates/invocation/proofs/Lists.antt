@@ -20,10 +20,14 @@ has_first [] n e = ap (ltb 0) e
 has_first (x ∷ xs) n e = lt-ltb 0 n (omega arith)
 
 -- the last of a list is the first of its reverse
-pub nth_last : {A : Type 0} (xs : List A) (n : ℕ) → n ≡ length xs → 0 < n → slice_get xs (n - 1) ≡ slice_get (reverse xs) 0
+nth_last : {A : Type 0} (xs : List A) (n : ℕ) → n ≡ length xs → 0 < n → slice_get xs (n - 1) ≡ slice_get (reverse xs) 0
 nth_last [] n e h = absurd (omega arith)
 nth_last (x ∷ xs) n e h =
     slice_get-get_or (x ∷ xs) (n - 1) x (omega arith) ∙ sym (slice_get-get_or (reverse (x ∷ xs)) 0 x (omega (arith, length-reverse (x ∷ xs))) ∙ ap Some (get_or-reverse (x ∷ xs) 0 x (omega arith) ∙ ap (λ k. get_or (x ∷ xs) k x) (omega arith)))
+
+pub last_first : {A : Type 0} (xs : List A) → slice_get xs (length xs - 1) ≡ slice_get (reverse xs) 0
+last_first [] = refl
+last_first (x ∷ xs) = nth_last (x ∷ xs) _ refl (omega arith)
 
 pub drop-reverse : {A : Type 0} (xs : List A) → drop 1 (reverse xs) ≡ reverse (take (length xs - 1) xs)
 drop-reverse [] = refl

@@ -10,7 +10,7 @@ use Rattle.replacement.specs.Items.{Item}
 use Rattle.replacement.specs.Meaning.{item_of, items_of}
 use Rattle.replacement.specs.Replacing.{opens, closes, onto_first, parted}
 use Rattle.invocation.specs.declared.bracket.Bracket.TheVariants.{Opens, Closes, Inner}
-use Rattle.invocation.specs.declared.span.Span.{Span}
+use Rattle.text.specs.declared.Extent.{Extent}
 use Rattle.invocation.specs.Calls.{part_of}
 use Rattle.invocation.specs.Fronts.{bracket_of, depth_behind}
 use Rattle.invocation.proofs.Lists.{drop_nth, take_nth, nth_drop}
@@ -29,12 +29,12 @@ onto-push [] i args = refl
 onto-push (j ∷ is) i args = ap (onto_first j) (onto-push is i args)
 
 -- the parts so far, the tokens from the start of the open one, and what is left are the parts of all
-abbrev pub Parts : List (Tagged HideSet) → ℕ → List Span → ℕ → ℕ → ℕ → ℕ → Type 0
+abbrev pub Parts : List (Tagged HideSet) → ℕ → List Extent → ℕ → ℕ → ℕ → ℕ → Type 0
 Parts xs most spans start left depth at =
     (ms : List Macro) → map (part_of ms xs) spans ++ onto_all (items_of ms (take (at - start) (drop start xs))) (parted left depth (items_of ms (drop at xs))) ≡ parted most 0 (items_of ms xs)
 
 -- the same by other names
-pub parts_same : (xs : List (Tagged HideSet)) (most at : ℕ) (spans spans' : List Span) (start start' left left' depth depth' : ℕ) → spans' ≡ spans → start' ≡ start → left' ≡ left → depth' ≡ depth → Parts xs most spans start left depth at → Parts xs most spans' start' left' depth' at
+pub parts_same : (xs : List (Tagged HideSet)) (most at : ℕ) (spans spans' : List Extent) (start start' left left' depth depth' : ℕ) → spans' ≡ spans → start' ≡ start → left' ≡ left → depth' ≡ depth → Parts xs most spans start left depth at → Parts xs most spans' start' left' depth' at
 parts_same xs most at spans spans' start start' left left' depth depth' e f g d h ms =
     (λ j. map (part_of ms xs) (e j) ++ onto_all (items_of ms (take (at - f j) (drop (f j) xs))) (parted (g j) (d j) (items_of ms (drop at xs)))) ∙ h ms
 
@@ -49,7 +49,7 @@ depth_is false true h depth = refl
 depth_is false false h depth = refl
 
 -- one more span ends the open part
-span_push : (ms : List Macro) (xs : List (Tagged HideSet)) (spans : List Span) (start at : ℕ) (args : List (List Item)) → map (part_of ms xs) (spans ++ record { start = start; len = at - start } ∷ []) ++ args ≡ map (part_of ms xs) spans ++ onto_all (items_of ms (take (at - start) (drop start xs))) ([] ∷ args)
+span_push : (ms : List Macro) (xs : List (Tagged HideSet)) (spans : List Extent) (start at : ℕ) (args : List (List Item)) → map (part_of ms xs) (spans ++ record { start = start; len = at - start } ∷ []) ++ args ≡ map (part_of ms xs) spans ++ onto_all (items_of ms (take (at - start) (drop start xs))) ([] ∷ args)
 span_push ms xs spans start at args =
     let part = items_of ms (take (at - start) (drop start xs)) in
     ap (λ ps. ps ++ args) (map_push (part_of ms xs) spans _) ∙ append_assoc (map (part_of ms xs) spans) _ args ∙ ap (λ a. map (part_of ms xs) spans ++ a ∷ args) (sym (append-nil part)) ∙ ap (λ ps. map (part_of ms xs) spans ++ ps) (sym (onto_first_lem part [] args))
@@ -57,7 +57,7 @@ span_push ms xs spans start at args =
 outside : (b : Bool) (depth left : ℕ) → true ≡ (b && eqb depth 0 && leb 1 left) → depth ≡ 0
 outside b depth left e = grind (arith, nat_tests)
 
-module _ (xs : List (Tagged HideSet)) (most : ℕ) (spans spans' : List Span) (start left depth at : ℕ) where
+module _ (xs : List (Tagged HideSet)) (most : ℕ) (spans spans' : List Extent) (start left depth at : ℕ) where
   from_here : (x : Tagged HideSet) → Some x ≡ slice_get xs at → x ∷ drop (at + 1) xs ≡ drop at xs
   from_here x n = let one : at + 1 ≡ suc at = omega arith in ap (λ k. x ∷ drop k xs) one ∙ sym (drop_nth xs at x n)
 

@@ -1,5 +1,5 @@
 -- A turn of gathering, by what its calls answer. Assumes nothing.
-use Rattle.std.proofs.Common.{◌≡◌, ℕ, ◌+◌, ◌<◌, ◌≤◌, false, List, ◌++◌, length, take, Some, None, sym, ap, ◌∙◌, arith, length-append, length-drop, length-take}
+use Rattle.std.proofs.Common.{◌≡◌, ℕ, ◌+◌, ◌<◌, ◌≤◌, false, List, ◌++◌, length, take, Some, None, Err, Result, sym, ap, ◌∙◌, arith, length-append, length-drop, length-take}
 use Rattle.std.specs.List.{slice_get}
 use Rattle.item.specs.declared.hide_set.HideSet.{HideSet}
 use Rattle.item.specs.Tagged.{Tagged, fit}
@@ -8,8 +8,8 @@ use Rattle.replacement.specs.Meaning.{items_of}
 use Rattle.replacement.specs.Replacing.{gathered}
 use Rattle.invocation.specs.declared.bracket.Bracket.{Bracket}
 use Rattle.invocation.specs.declared.bracket.Bracket.TheVariants.{Opens, Closes, Inner, End}
-use Rattle.invocation.specs.declared.bracket.Gathered.{Gathered}
-use Rattle.invocation.specs.declared.bracket.Gathered.TheVariants.{Full}
+use Rattle.invocation.specs.declared.bracket.GatherError.{GatherError}
+use Rattle.invocation.specs.declared.bracket.GatherError.TheVariants.{Full}
 use Rattle.invocation.specs.Calls.{Gathering, end_before}
 use Rattle.invocation.specs.Fronts.{Dropped, bracket, depth_behind}
 use Rattle.invocation.proofs.Gathering.{Continues, onto, gathering_ended, gathering_full, continues_more, some_left}
@@ -35,7 +35,7 @@ module _ (w₀ run₀ within : List (Tagged HideSet)) (depth : ℕ) (w run run�
   taken₁ : Dropped (length within) w₀ run₀ w run₁
   taken₁ = record { first = taken.first; then = same ∙ taken.then }
 
-  pub turn_ended : (r : Gathered) → Some r ≡ end_before depth b → ((ms : List Macro) → Gathering ms (w₀ ++ run₀) r within) × Dropped (length within) w₀ run₀ w run₁
+  pub turn_ended : (r : Result HideSet GatherError) → Some r ≡ end_before depth b → ((ms : List Macro) → Gathering ms (w₀ ++ run₀) r within) × Dropped (length within) w₀ run₀ w run₁
   turn_ended r e = (gathering_ended (w₀ ++ run₀) within depth (w ++ run) r state (e ∙ ap (end_before depth) answer), taken₁)
 
   module _ (goes : None ≡ end_before depth b) (within' w' run' : List (Tagged HideSet)) where
@@ -45,7 +45,7 @@ module _ (w₀ run₀ within : List (Tagged HideSet)) (depth : ℕ) (w run run�
     some : 0 < length (w ++ run₁)
     some = some_left depth (w ++ run₁) goes₁
 
-    pub turn_full : false ≡ fit (within ++ take 1 (w ++ run₁)) → within' ≡ within → Dropped 0 w run₁ w' run' → ((ms : List Macro) → Gathering ms (w₀ ++ run₀) Full within') × Dropped (length within') w₀ run₀ w' run'
+    pub turn_full : false ≡ fit (within ++ take 1 (w ++ run₁)) → within' ≡ within → Dropped 0 w run₁ w' run' → ((ms : List Macro) → Gathering ms (w₀ ++ run₀) (Err Full) within') × Dropped (length within') w₀ run₀ w' run'
     turn_full f e d =
         let count : length within' ≡ length within + 0 = omega (arith, ap length e) in
         (gathering_full (w₀ ++ run₀) within (w ++ run₁) depth state₁ goes₁ f, dropped_more _ _ 0 w₀ run₀ w run₁ w' run' count taken₁ d)

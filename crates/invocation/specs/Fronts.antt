@@ -1,5 +1,5 @@
 -- W and the run, as the code keeps them. Assumes nothing.
-use Rattle.std.specs.Prelude.{◌≡◌, ℕ, suc, ◌-◌, cond, List, reverse, length, drop, Some, None, codes, Option}
+use Rattle.std.specs.Prelude.{◌≡◌, ℕ, suc, ◌-◌, cond, List, [], ◌∷◌, reverse, length, drop, Some, None, codes, Option}
 use Rattle.item.specs.declared.hide_set.HideSet.{HideSet}
 use Rattle.item.specs.declared.table.TagTable.{TagTable}
 use Rattle.item.specs.Tables.{held}
@@ -11,6 +11,11 @@ use Rattle.invocation.specs.declared.bracket.Bracket.TheVariants.{Opens, Closes,
 -- W stands in a table with its first token last
 abbrev pub waiting : TagTable HideSet → List (Tagged HideSet)
 waiting t = reverse (held t)
+
+-- the next token: the first of W, or else the one that the run has at hand
+abbrev pub front_of : List (Tagged HideSet) → Option (Tagged HideSet) → Option (Tagged HideSet)
+front_of [] hand = hand
+front_of (x ∷ w) hand = Some x
 
 -- so many tokens are taken away from W, and where it holds fewer, the others from the run
 pub record Dropped (n : ℕ) (w run w' run' : List (Tagged HideSet)) : Type 0 where

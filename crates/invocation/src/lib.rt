@@ -4,15 +4,14 @@
 mod arguments;
 mod bracket;
 mod calls;
-mod front;
+mod input;
 mod run;
-mod span;
 mod table_run;
 mod token_run;
 
 pub use arguments::Arguments;
-pub use bracket::{Bracket, Gathered};
-pub use front::{drop_front, first_waiting, front_bracket, move_front};
+pub use bracket::{Bracket, GatherError};
+pub use input::{drop_front, fetch_front, front, front_bracket, move_front};
 pub use run::Run;
 pub use table_run::TableRun;
 pub use token_run::TokenRun;

@@ -28,7 +28,7 @@ impl<'a> Run for TableRun<'a> {
     }
 
     fn advance(&mut self) {
-        self.items = self.items.part(1, self.items.len());
+        self.items = self.items.behind(1);
     }
 
     fn ending(&self) -> Ending {

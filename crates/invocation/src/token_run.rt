@@ -34,7 +34,7 @@ impl<'a> Run for TokenRun<'a> {
     }
 
     fn advance(&mut self) {
-        self.tokens = self.tokens.part(1, self.tokens.len());
+        self.tokens = self.tokens.behind(1);
     }
 
     fn ending(&self) -> Ending {

@@ -1,5 +1,7 @@
 -- Lists side by side. Assumes nothing.
-use Rattle.std.proofs.Common.{◌≡◌, ℕ, zero, suc, ◌+◌, ◌-◌, ◌<◌, ◌≤◌, min, List, [], ◌∷◌, ◌++◌, length, take, drop, Some, None, sym, refl, ap, ◌∙◌, suc-le-suc, add_assoc, zero-add, arith, length-drop, length-take}
+use Rattle.std.proofs.Common.{◌≡◌, ℕ, zero, suc, ◌+◌, ◌-◌, ◌≤◌, min, List, [], ◌∷◌, ◌++◌, length, take, drop, Some, None, sym, refl, ap, ◌∙◌, suc-le-suc, add_assoc, zero-add, arith, length-drop, length-take}
+use Rattle.std.proofs.Math.Seq.{take-length, take-suc}
+use Rattle.std.proofs.lemmas.Option.{get_or_from_slice_get}
 use Rattle.std.specs.List.{slice_get}
 use Rattle.token.specs.Tokens.{Token}
 use Rattle.token.specs.Views.{spelled}
@@ -32,16 +34,20 @@ drop-beside (suc n) [] xs = refl
 drop-beside (suc n) (t ∷ ts) [] = sym (beside_none (drop n ts))
 drop-beside (suc n) (t ∷ ts) (x ∷ xs) = drop-beside n ts xs
 
--- a list has something before its end, and nothing behind
-pub nth-within : {T : Type 0} (xs : List T) (i : ℕ) (x : T) → slice_get xs i ≡ Some x → i < length xs
-nth-within [] i x e = let z : ◌≡◌ {A = ℕ} 0 1 = cc in omega arith
-nth-within (y ∷ xs) zero x e = omega arith
-nth-within (y ∷ xs) (suc i) x e = suc-le-suc (nth-within xs i x e)
-
+-- a list has nothing behind its end
 pub nth_beyond : {T : Type 0} (xs : List T) (i : ℕ) → slice_get xs i ≡ None → length xs ≤ i
 nth_beyond [] i e = omega arith
 nth_beyond (y ∷ xs) zero e = let z : ◌≡◌ {A = ℕ} 0 1 = cc in omega arith
 nth_beyond (y ∷ xs) (suc i) e = suc-le-suc (nth_beyond xs i e)
+
+-- a list ends with what stands at its last place
+pub split_last : {T : Type 0} (xs : List T) (n : ℕ) (x : T) → slice_get xs n ≡ Some x → length xs ≡ suc n → xs ≡ take n xs ++ x ∷ []
+split_last xs n x e long =
+    sym (take-length xs) ∙ ap (λ k. take k xs) long ∙ take-suc xs n x (omega arith) ∙ ap (λ y. take n xs ++ y ∷ []) (get_or_from_slice_get xs n x x e)
+
+pub none_first : {T : Type 0} (xs : List T) → slice_get xs 0 ≡ None → xs ≡ []
+none_first [] e = refl
+none_first (x ∷ xs) e = let z : ◌≡◌ {A = ℕ} 0 1 = cc in absurd (omega arith)
 
 pub nth-beside : {T : Type 0} (ts : List Token) (xs : List T) (i : ℕ) (t : Token) (x : T) → slice_get ts i ≡ Some t → slice_get xs i ≡ Some x → slice_get (beside ts xs) i ≡ Some (record { token = t; tag = x })
 nth-beside [] xs i t x e f = let z : ◌≡◌ {A = ℕ} 0 1 = cc in absurd (omega arith)

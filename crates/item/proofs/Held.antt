@@ -21,15 +21,15 @@ module _ {T : Type 0} (t : TagTable T) where
   -- a table stays within its limits
   pub fits : fit (held t) ≡ true
   fits =
-      let few : length (held t) ≤ 1024 = omega (arith, count, filled.count t.tokens, t.tokens.few, t.most_tokens) in
-      let small : bytes (held t) ≤ 16384 = omega (arith, bytes-beside (table_tokens t.tokens) (vec_items t.tags) even, filled.size t.tokens, t.tokens.short, t.most_bytes) in
+      let few : length (held t) ≤ 1024 = omega (arith, count, filled.count t.tokens, t.tokens.few) in
+      let small : bytes (held t) ≤ 16384 = omega (arith, bytes-beside (table_tokens t.tokens) (vec_items t.tags) even, filled.size t.tokens, t.tokens.short) in
       and_from _ _ (le-leb _ _ few) (le-leb _ _ small)
 
   pub room : (i : Tagged T) → has_room t.tokens (length i.token.spelling) ≡ fit (held t ++ i ∷ [])
   room i =
       let tokens : suc (length (table_tokens t.tokens)) ≡ length (held t ++ i ∷ []) = omega (arith, length_push (held t) i, count) in
       let size : spelled (table_tokens t.tokens) + length i.token.spelling ≡ bytes (held t ++ i ∷ []) = omega (arith, bytes-append (held t) (i ∷ []), bytes-beside (table_tokens t.tokens) (vec_items t.tags) even) in
-      (λ j. leb (tokens j) (t.most_tokens j) && leb (size j) (t.most_bytes j))
+      (λ j. leb (tokens j) 1024 && leb (size j) 16384)
 
   -- one more token and what stands beside it
   pub held-push : (i : Tagged T) (ts : List Token) (xs : List T) → ts ≡ table_tokens t.tokens ++ i.token ∷ [] → xs ≡ vec_items t.tags ++ i.tag ∷ [] → beside ts xs ≡ held t ++ i ∷ []

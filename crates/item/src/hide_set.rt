@@ -5,7 +5,7 @@ ghost use Rattle.item.specs.Sets.{bit, in_set, empty_set};
 const HALF: usize = 128;
 
 // The slots 0 to 127 are bits of `low`, those from 128 to 255 bits of `high`.
-#[derive(Clone, Copy)]
+#[derive(Clone, Copy, PartialEq, Debug)]
 pub struct HideSet {
     pub(crate) low: u128,
     pub(crate) high: u128,

@@ -5,9 +5,7 @@ use token::TokenRef;
 
 mod hide_set;
 mod table;
-mod tables;
 mod view;
-mod views;
 
 pub use hide_set::HideSet;
 pub use table::TagTable;
@@ -18,4 +16,12 @@ pub use view::TagView;
 pub struct TagRef<'a, T> {
     pub token: TokenRef<'a>,
     pub tag: T,
+}
+
+// A name that is replaced: the line that it stands on, its mark and its hide set.
+#[derive(Clone, Copy, PartialEq, Debug)]
+pub struct Name {
+    pub line: u32,
+    pub marked: bool,
+    pub hides: HideSet,
 }

@@ -6,7 +6,7 @@ use Rattle.lexer.specs.declared.scan.Class.{Class}
 use Rattle.lexer.specs.declared.scan.Class.TheVariants.{Literal, WideLiteral, Number, Name, Symbol}
 use Rattle.lexer.specs.Cutting.{Scan, token, unclosed, literal, literal_length, scan}
 use Rattle.lexer.specs.Punctuators.{punctuators, begins, longest}
-use Rattle.lexer.specs.Scanning.{symbol_token}
+use Rattle.lexer.specs.Scanning.{symbol_token, some_length}
 use Rattle.lexer.proofs.Fronts.{scan_as, scan_as_lem}
 use Rattle.lexer.proofs.Lengths.{Fitting, fitting-literal, name_bound, number_bound}
 
@@ -25,7 +25,7 @@ longest_bound (w ∷ ws) bs =
     let first : cond (begins w bs) (length w) 0 ≤ length bs = cond_both (begins w bs) _ _ (λ n. n ≤ length bs) (begins_bound w bs) (λ _. omega arith) in
     omega (arith, longest_bound ws bs)
 
-symbol_fits : (m n : ℕ) → 0 < m → n ≤ m → Fits m (symbol_token n)
+symbol_fits : (m n : ℕ) → 0 < m → n ≤ m → Fits m (symbol_token (some_length n))
 symbol_fits m zero some h = (omega arith, omega arith)
 symbol_fits m (suc n) some h = (omega arith, omega arith)
 

@@ -1,10 +1,10 @@
 -- How long names, numbers and literals are, one byte on. Assumes nothing.
-use Rattle.std.proofs.Common.{◌≡◌, ℕ, suc, ◌+◌, ◌<◌, ◌≤◌, Bool, true, false, cond, not, ◌&&◌, ◌||◌, eqb, List, [], ◌∷◌, length, get_or, drop, IfSome, Some, None, Option, refl, ap, ◌∙◌, arith}
+use Rattle.std.proofs.Common.{◌≡◌, ℕ, suc, ◌+◌, ◌<◌, ◌≤◌, Bool, true, false, cond, ◌&&◌, ◌||◌, eqb, List, [], ◌∷◌, length, get_or, drop, IfSome, Some, None, Option, refl, ap, ◌∙◌, arith}
 use Rattle.std.specs.Option.{option_map}
 use Rattle.std.proofs.lemmas.List.{at_drop_more}
 use Rattle.std.proofs.lemmas.Option.{MatchOption-at_some}
-use Rattle.text.specs.Bytes.{name_byte, admitted, quoting}
-use Rattle.lexer.specs.Cutting.{sign, exponent, name_length, number_length, literal_length, fitting}
+use Rattle.text.specs.Bytes.{name_byte, quoting}
+use Rattle.lexer.specs.Cutting.{sign, exponent, name_length, number_length, literal_length}
 
 -- whether a byte goes on with a number; the flag is that of number_length
 abbrev pub goes : Bool → ℕ → Bool
@@ -15,23 +15,6 @@ further i None = refl
 further i (Some n) = ap Some (omega arith)
 
 module _ (bs : List ℕ) (i : ℕ) (within : i < length bs) where
-  pub name_more : name_byte (get_or bs i 0) ≡ true → name_length (drop i bs) ≡ suc (name_length (drop (i + 1) bs))
-  name_more t = at_drop_more name_length bs i 0 within ∙ ap (λ q. cond q (suc (name_length (drop (i + 1) bs))) 0) t
-
-  pub name_stops : name_byte (get_or bs i 0) ≡ false → name_length (drop i bs) ≡ 0
-  name_stops t = at_drop_more name_length bs i 0 within ∙ ap (λ q. cond q (suc (name_length (drop (i + 1) bs))) 0) t
-
-  pub number_more : (e : Bool) → goes e (get_or bs i 0) ≡ true → number_length e (drop i bs) ≡ suc (number_length (exponent (get_or bs i 0)) (drop (i + 1) bs))
-  number_more e t =
-      at_drop_more (number_length e) bs i 0 within ∙ ap (λ q. cond q (suc (number_length (exponent (get_or bs i 0)) (drop (i + 1) bs))) 0) t
-
-  pub number_stops : (e : Bool) → goes e (get_or bs i 0) ≡ false → number_length e (drop i bs) ≡ 0
-  number_stops e t =
-      at_drop_more (number_length e) bs i 0 within ∙ ap (λ q. cond q (suc (number_length (exponent (get_or bs i 0)) (drop (i + 1) bs))) 0) t
-
-  pub fitting_more : (t : Bool) → (admitted (get_or bs i 0) && not (eqb (get_or bs i 0) 10)) ≡ t → fitting (drop i bs) ≡ (t && fitting (drop (i + 1) bs))
-  fitting_more t e = at_drop_more fitting bs i 0 within ∙ ap (λ q. q && fitting (drop (i + 1) bs)) e
-
   literal-step : (m : ℕ) (e : Bool) (q : Option Bool) → quoting m e (get_or bs i 0) ≡ q → literal_length m e (drop i bs) ≡ elim q [ None ↦ Some 1 | Some n ↦ option_map suc (literal_length m n (drop (i + 1) bs)) ]
   literal-step m e q t =
       at_drop_more (literal_length m e) bs i 0 within ∙ ap (λ q. elim q [ None ↦ Some 1 | Some n ↦ option_map suc (literal_length m n (drop (i + 1) bs)) ]) t

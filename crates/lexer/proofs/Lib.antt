@@ -11,7 +11,6 @@ pub mod Numerals
 pub mod Only
 pub mod Punctuators
 pub mod Reaching
-pub mod Rooms
 pub mod Sofar
 pub mod Sound
 pub mod Turns

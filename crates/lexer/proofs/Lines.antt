@@ -1,7 +1,6 @@
 -- The first line of the tokens that are left. Assumes nothing.
 use Rattle.std.proofs.Common.{◌≡◌, ℕ, List, [], Ok, Err, Result, refl, ap, arith}
 use Rattle.source.specs.declared.Ending.TheVariants.{Fails}
-use Rattle.source.specs.declared.reader.NextLine.TheVariants.{End}
 use Rattle.source.specs.Lines.{Lines, line, stop, line_head, line_bytes}
 use Rattle.text.specs.declared.Fault.{Fault}
 use Rattle.token.specs.Tokens.{Token}
@@ -20,7 +19,7 @@ line_tokens (line ps n ls) ts e =
 line_tokens (stop x) ts e = (refl, cc)
 
 -- a fault ends them
-pub line_fault : (ls : Lines) (f : Fault) → cut_line (line_bytes ls) ≡ Err f → (End (Fails f) ≡ tokens_head (cut_lines ls)) × ([] ≡ tokens_first (cut_lines ls))
+pub line_fault : (ls : Lines) (f : Fault) → cut_line (line_bytes ls) ≡ Err f → (Err (Fails f) ≡ tokens_head (cut_lines ls)) × ([] ≡ tokens_first (cut_lines ls))
 line_fault (line ps n ls) f e =
     let same : cut_lines (line ps n ls) ≡ over (Fails f) = ap (cut_before n (cut_lines ls)) e in
     (rw same refl, rw same refl)

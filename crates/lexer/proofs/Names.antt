@@ -6,10 +6,6 @@ use Rattle.lexer.specs.Cutting.{name_length}
 use Rattle.lexer.specs.Grammar.{Named}
 use Rattle.lexer.specs.Grammar.Named.{none, and}
 
-pub name-fits : (bs : List ℕ) → name_length bs ≤ length bs
-name-fits [] = omega arith
-name-fits (b ∷ bs) = let h = name-fits bs in cond_both (name_byte b) (suc (name_length bs)) 0 (λ n. n ≤ suc (length bs)) (λ _. omega arith) (λ _. omega arith)
-
 -- what a name takes may stand in it
 pub name_named : (bs : List ℕ) → Named (take (name_length bs) bs)
 name_named [] = none

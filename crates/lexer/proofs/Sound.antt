@@ -11,7 +11,8 @@ use Rattle.lexer.specs.Cutting.Scan.{token, unclosed}
 use Rattle.lexer.specs.Punctuators.{punctuators, longest}
 use Rattle.lexer.specs.Grammar.{Quoted, Spells}
 use Rattle.lexer.specs.Grammar.Spells.{identifier, number, character, string, punctuator, other}
-use Rattle.lexer.proofs.Names.{name-fits, name_named}
+use Rattle.lexer.proofs.Lengths.{name_bound}
+use Rattle.lexer.proofs.Names.{name_named}
 use Rattle.lexer.proofs.Numerals.{number_front, number_fits, number_numeral}
 use Rattle.lexer.proofs.Literals.{Closed, literal-closed}
 use Rattle.lexer.proofs.Punctuators.{begins-take, begins-fits, begins_with, longest_reaches, longest-found}
@@ -89,7 +90,7 @@ pub sound : (b : ℕ) (bs : List ℕ) → white b ≡ false → Sound (b ∷ bs)
 sound b bs no-white =
     let whole = Sound (b ∷ bs) in
     let n = number_fits false bs in
-    let l = name-fits bs in
+    let l = name_bound bs in
     cond_both (mark b) _ _ whole (λ m. literal_sound (b ∷ bs) 1 b bs (omega arith) (omega arith) (narrow m) m (narrow-quoted b bs))
     (λ no-mark. cond_both (eqb b 76 && front mark bs) _ _ whole (λ w. let p = and_parts _ _ w in wide_sound b bs p.0 p.1)
     (λ no-wide. cond_both (number_front (b ∷ bs)) _ _ whole (λ o. (omega arith, omega arith, number (number_numeral b bs o)))

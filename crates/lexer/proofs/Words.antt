@@ -1,9 +1,9 @@
 -- Words of one length, and the longest punctuator that bytes begin with. Assumes nothing.
-use Rattle.std.proofs.Common.{◌≡◌, ℕ, zero, suc, ◌+◌, max, Bool, true, false, cond, not, ◌&&◌, ◌||◌, eqb, List, [], ◌∷◌, ◌++◌, length, get_or, drop, sym, refl, ap, ◌∙◌, ⊎_elim, arith}
+use Rattle.std.proofs.Common.{◌≡◌, ℕ, zero, suc, ◌+◌, max, Bool, true, false, cond, not, ◌&&◌, ◌||◌, eqb, List, [], ◌∷◌, ◌++◌, length, get_or, drop, Some, None, sym, refl, ap, ◌∙◌, ⊎_elim, arith}
 use Rattle.std.proofs.lemmas.List.{at_drop_more, at_drop_all, get_or_past}
 use Rattle.std.proofs.lemmas.Bool.{and_parts, cases_lt, not-true}
 use Rattle.lexer.specs.Punctuators.{ones, twos, threes, fours, punctuators, begins, longest}
-use Rattle.lexer.specs.Scanning.{starting, longest_of}
+use Rattle.lexer.specs.Scanning.{starting, longest_of, some_length}
 
 -- n bytes from i on, 0 where there is none
 abbrev pub front : ℕ → ℕ → List ℕ → List ℕ
@@ -83,9 +83,17 @@ by_length false false true false = refl
 by_length false false false true = refl
 by_length false false false false = refl
 
-pub longest-punctuator : (bs : List ℕ) → longest punctuators bs ≡ longest_of (get_or bs 0 0) (get_or bs 1 0) (get_or bs 2 0) (get_or bs 3 0)
+some_length-by_length : (a b c d : Bool) → some_length (cond d 4 (cond c 3 (cond b 2 (cond a 1 0)))) ≡ cond d (Some 4) (cond c (Some 3) (cond b (Some 2) (cond a (Some 1) None)))
+some_length-by_length a b c true = refl
+some_length-by_length a b true false = refl
+some_length-by_length a true false false = refl
+some_length-by_length true false false false = refl
+some_length-by_length false false false false = refl
+
+pub longest-punctuator : (bs : List ℕ) → some_length (longest punctuators bs) ≡ longest_of (get_or bs 0 0) (get_or bs 1 0) (get_or bs 2 0) (get_or bs 3 0)
 longest-punctuator bs =
-    longest-append ones (twos ++ (threes ++ fours)) bs
+    ap some_length (longest-append ones (twos ++ (threes ++ fours)) bs
     ∙ ap (max (longest ones bs)) (longest-append twos (threes ++ fours) bs ∙ ap (max (longest twos bs)) (longest-append threes fours bs))
     ∙ (λ i. max (longest-front 1 ones bs refl i) (max (longest-front 2 twos bs refl i) (max (longest-front 3 threes bs refl i) (longest-front 4 fours bs refl i))))
-    ∙ by_length (starting ones (front 0 1 bs)) (starting twos (front 0 2 bs)) (starting threes (front 0 3 bs)) (starting fours (front 0 4 bs))
+    ∙ by_length (starting ones (front 0 1 bs)) (starting twos (front 0 2 bs)) (starting threes (front 0 3 bs)) (starting fours (front 0 4 bs)))
+    ∙ some_length-by_length (starting ones (front 0 1 bs)) (starting twos (front 0 2 bs)) (starting threes (front 0 3 bs)) (starting fours (front 0 4 bs))

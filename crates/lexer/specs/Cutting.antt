@@ -1,5 +1,6 @@
 -- A logical line cut into tokens, from the left, each as long as it can be. Assumes nothing.
 use Rattle.std.specs.Prelude.{ℕ, zero, suc, ◌+◌, Bool, true, false, cond, not, ◌&&◌, ◌||◌, List, [], ◌∷◌, map, length, take, drop, Some, None, Ok, Err, Option, Result, ◌==◌, nat_le, slice_index}
+use Rattle.std.specs.List.{list_all}
 use Rattle.std.specs.Option.{option_map}
 use Rattle.text.specs.Bytes.{within, digit, name_byte, admitted, mark, quoting}
 use Rattle.text.specs.Placing.{byte_of}
@@ -89,8 +90,7 @@ cut_line ps = cut (length ps) true ps
 
 -- bytes that may stand in a line
 abbrev pub fitting : List ℕ → Bool
-fitting [] = true
-fitting (b ∷ bs) = admitted b && not (b == 10) && fitting bs
+fitting bs = list_all (λ b. admitted b && not (b == 10)) bs
 
 -- the kind, where all of the bytes are one token
 abbrev pub exactly : ℕ → Scan → Option Kind

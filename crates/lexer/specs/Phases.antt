@@ -1,9 +1,7 @@
 -- Phases 1 to 3, one after another over a whole text. Assumes nothing.
-use Rattle.std.specs.Prelude.{ℕ, List, [], Ok, Err}
+use Rattle.std.specs.Prelude.{ℕ, List, [], Ok, Err, Result}
 use Rattle.source.specs.declared.Ending.{Ending}
 use Rattle.source.specs.declared.Ending.TheVariants.{Fails}
-use Rattle.source.specs.declared.reader.NextLine.{NextLine}
-use Rattle.source.specs.declared.reader.NextLine.TheVariants.{Newline, End}
 use Rattle.source.specs.Lines.{Lines, line, stop}
 use Rattle.source.specs.Phases.{logical_lines}
 use Rattle.source.specs.Stream.{Stream}
@@ -25,9 +23,9 @@ abbrev pub token_lines : Stream → TokenLines
 token_lines s = cut_lines (logical_lines s)
 
 -- the first line, as an answer, and its tokens
-abbrev pub tokens_head : TokenLines → NextLine
-tokens_head (tokens ts n ls) = Newline n
-tokens_head (over e) = End e
+abbrev pub tokens_head : TokenLines → Result ℕ Ending
+tokens_head (tokens ts n ls) = Ok n
+tokens_head (over e) = Err e
 
 abbrev pub tokens_first : TokenLines → List Token
 tokens_first (tokens ts n ls) = ts

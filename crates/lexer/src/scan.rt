@@ -1,19 +1,12 @@
 // The token at the front of bytes: its kind, and how long it is.
-ghost use Rattle.std.specs.Prelude.{◌≡◌, ◌+◌, ◌^◌, ◌<◌, false, ◌&&◌, ◌||◌, [], ◌∷◌, length, ◌==◌, slice_index};
+ghost use Rattle.std.specs.Prelude.{◌≡◌, ◌+◌, ◌^◌, ◌<◌, false, ◌&&◌, ◌||◌, [], ◌∷◌, length, Some, ◌==◌, slice_index};
 ghost use Rattle.text.specs.Bytes.{name_byte};
 ghost use Rattle.lexer.specs.Cutting.{scan as front_token, literal as literal_token, sign, exponent, white, name_length, number_length, literal_length};
 ghost use Rattle.lexer.specs.Punctuators.{ones, twos, threes, fours, punctuators, longest};
-ghost use Rattle.lexer.specs.Scanning.{scanned, class_of, symbol_token, starting, longest_of};
+ghost use Rattle.lexer.specs.Scanning.{scanned, class_of, symbol_token, starting, longest_of, some_length};
 
 use text::bytes::{is_digit, is_mark, is_name_byte, quote};
 use token::Kind;
-
-// A literal without its closing mark, and '', are no tokens.
-#[derive(Clone, Copy)]
-pub(crate) enum Scanned {
-    Token(Kind, usize),
-    Unclosed,
-}
 
 // What the first bytes of a token tell apart.
 #[derive(Clone, Copy)]
@@ -48,24 +41,26 @@ fn in_number(byte: u8, after_exponent: bool) -> bool
 fn name_length(bytes: &[u8]) -> usize
     ensures { result ≡ name_length bytes.now }
 {
-    let mut len = 0;
-    while len < bytes.len() && is_name_byte(bytes[len]) {
-        len += 1;
+    for (len, byte) in bytes.iter().enumerate() {
+        if !is_name_byte(*byte) {
+            return len;
+        }
     }
-    len
+    bytes.len()
 }
 
 // How many bytes go on with a number whose first byte is a digit or a point.
 fn number_length(bytes: &[u8]) -> usize
     ensures { result ≡ number_length false bytes.now }
 {
-    let mut len = 0;
     let mut after_exponent = false;
-    while len < bytes.len() && in_number(bytes[len], after_exponent) {
-        after_exponent = is_exponent(bytes[len]);
-        len += 1;
+    for (len, byte) in bytes.iter().enumerate() {
+        if !in_number(*byte, after_exponent) {
+            return len;
+        }
+        after_exponent = is_exponent(*byte);
     }
-    len
+    bytes.len()
 }
 
 // How many bytes a literal has behind the mark that opens it, its closing mark included.
@@ -148,29 +143,29 @@ fn is_fourfold(a: u8, b: u8, c: u8, d: u8) -> bool
 fn byte_at(bytes: &[u8], at: usize) -> u8
     ensures { result ≡ slice_index bytes.now at }
 {
-    if at < bytes.len() { bytes[at] } else { 0 }
+    bytes.get(at).copied().unwrap_or(0)
 }
 
-// The length of the longest punctuator that four bytes begin with, 0 where there is none.
-fn longest_of(a: u8, b: u8, c: u8, d: u8) -> usize
+// The length of the longest punctuator that four bytes begin with.
+fn longest_of(a: u8, b: u8, c: u8, d: u8) -> Option<usize>
     ensures { result ≡ longest_of a b c d }
 {
     if is_fourfold(a, b, c, d) {
-        4
+        Some(4)
     } else if is_triple(a, b, c) {
-        3
+        Some(3)
     } else if is_double(a, b) {
-        2
+        Some(2)
     } else if is_single(a) {
-        1
+        Some(1)
     } else {
-        0
+        None
     }
 }
 
-// The length of the punctuator at the front, 0 where there is none.
-fn punctuator_length(bytes: &[u8]) -> usize
-    ensures { result ≡ longest punctuators bytes.now }
+// The length of the punctuator at the front.
+fn punctuator_length(bytes: &[u8]) -> Option<usize>
+    ensures { result ≡ some_length (longest punctuators bytes.now) }
 {
     longest_of(
         byte_at(bytes, 0),
@@ -181,26 +176,24 @@ fn punctuator_length(bytes: &[u8]) -> usize
 }
 
 // A literal with so many bytes up to the mark that opens it, and then the bytes.
-fn literal(mark: u8, opening: usize, bytes: &[u8]) -> Scanned
+fn literal(mark: u8, opening: usize, bytes: &[u8]) -> Option<(Kind, usize)>
     requires { opening + length bytes.now < 2 ^ 64 }
     ensures { scanned result ≡ literal_token mark opening bytes.now }
 {
-    match literal_length(mark, bytes) {
-        None => Scanned::Unclosed,
-        Some(1) if mark == b'\'' => Scanned::Unclosed,
-        Some(len) if mark == b'\'' => Scanned::Token(Kind::Character, opening + len),
-        Some(len) => Scanned::Token(Kind::String, opening + len),
+    match literal_length(mark, bytes)? {
+        1 if mark == b'\'' => None,
+        len if mark == b'\'' => Some((Kind::Character, opening + len)),
+        len => Some((Kind::String, opening + len)),
     }
 }
 
 // A punctuator of so many bytes, or any other byte, where there is no punctuator.
-fn symbol(len: usize) -> Scanned
-    ensures { scanned result ≡ symbol_token len }
+fn symbol(len: Option<usize>) -> (Kind, usize)
+    ensures { scanned (Some result) ≡ symbol_token len }
 {
-    if len == 0 {
-        Scanned::Token(Kind::Other, 1)
-    } else {
-        Scanned::Token(Kind::Punctuator, len)
+    match len {
+        Some(len) => (Kind::Punctuator, len),
+        None => (Kind::Other, 1),
     }
 }
 
@@ -221,19 +214,20 @@ fn classify(first: u8, second: u8) -> Class
     }
 }
 
-pub(crate) fn scan(bytes: &[u8]) -> Scanned
+// The kind and the length of the token at the front: none for a literal without its closing mark, and for ''.
+pub(crate) fn scan(bytes: &[u8]) -> Option<(Kind, usize)>
     ensures { scanned result ≡ front_token bytes.now }
 {
     if bytes.is_empty() {
-        return Scanned::Unclosed;
+        return None;
     }
     let first = byte_at(bytes, 0);
     let second = byte_at(bytes, 1);
     match classify(first, second) {
         Class::Literal => literal(first, 1, &bytes[1..]),
         Class::WideLiteral => literal(second, 2, &bytes[2..]),
-        Class::Number => Scanned::Token(Kind::Number, 1 + number_length(&bytes[1..])),
-        Class::Name => Scanned::Token(Kind::Identifier, 1 + name_length(&bytes[1..])),
-        Class::Symbol => symbol(punctuator_length(bytes)),
+        Class::Number => Some((Kind::Number, 1 + number_length(&bytes[1..]))),
+        Class::Name => Some((Kind::Identifier, 1 + name_length(&bytes[1..]))),
+        Class::Symbol => Some(symbol(punctuator_length(bytes))),
     }
 }

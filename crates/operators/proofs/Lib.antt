@@ -1,12 +1,9 @@
-pub mod Added
 pub mod Before
 pub mod Ended
-pub mod HiddenNames
 pub mod Joined
-pub mod Listed
+pub mod Operands
 pub mod Placed
 pub mod Plain
-pub mod Quoted
 pub mod Sized
 pub mod Spelt
 pub mod Turned

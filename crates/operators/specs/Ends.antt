@@ -1,8 +1,9 @@
 -- A list whose last token may be the left operand of ##. Assumes nothing.
-use Rattle.std.specs.Prelude.{ℕ, ◌-◌, Bool, true, false, List, ◌++◌, length, take, Some, None, Option}
+use Rattle.std.specs.Prelude.{ℕ, ◌-◌, Bool, true, false, List, [], ◌∷◌, ◌++◌, length, take, Some, None, Option}
 use Rattle.std.specs.List.{slice_get}
+use Rattle.std.specs.Option.{option_map}
 use Rattle.replacement.specs.Items.{Item, Outcome, giving, ◌then◌}
-use Rattle.replacement.specs.Joining.{Piece, Join, good, bad, joining, join_all, settled}
+use Rattle.replacement.specs.Joining.{Piece, joined, join_all}
 
 -- the left operand, where there is one, and what stands before it
 abbrev pub last_of : Bool → List Item → Option Item
@@ -13,13 +14,14 @@ abbrev pub before : Bool → List Item → List Item
 before true is = take (length is - 1) is
 before false is = is
 
--- the list once its operand and another are joined, none where they do not make one token
-abbrev pub ending_in : List Item → Join → Option (List Item)
-ending_in is bad = None
-ending_in is (good c) = Some (is ++ settled c)
+-- an operand and a token joined, none where they do not make one token
+abbrev pub joined_to : ℕ → Option Item → Item → Option Item
+joined_to line None b = Some b
+joined_to line (Some a) b = joined line a b
 
-abbrev pub joined_end : ℕ → Bool → List Item → Option Item → Option (List Item)
-joined_end line o is b = ending_in (before o is) (joining line (last_of o is) b)
+-- the list once its operand and a token are joined
+abbrev pub joined_end : ℕ → Bool → List Item → Item → Option (List Item)
+joined_end line o is b = option_map (λ i. before o is ++ i ∷ []) (joined_to line (last_of o is) b)
 
 -- what the list and the pieces behind it give
 abbrev pub going_on : ℕ → ℕ → Bool → List Item → List Piece → Outcome Item

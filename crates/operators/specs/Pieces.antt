@@ -1,5 +1,5 @@
 -- What stands in a result before joining, as the code keeps it. Assumes nothing.
-use Rattle.std.specs.Prelude.{Bool, true, false, List, map, Some, None, Option}
+use Rattle.std.specs.Prelude.{false, List, map, Some, None, Option}
 use Rattle.item.specs.declared.hide_set.HideSet.{HideSet}
 use Rattle.item.specs.Sets.{empty_set}
 use Rattle.item.specs.Tagged.{Tagged}
@@ -29,9 +29,3 @@ as_operand t Nothing = None
 
 abbrev pub operand_of : Tagged Role → Option (Tagged HideSet)
 operand_of x = as_operand x.token x.tag
-
--- whether a piece is the operator
-abbrev pub is_join : Role → Bool
-is_join (Plain h) = false
-is_join Join = true
-is_join Nothing = false

@@ -1,5 +1,6 @@
 -- Tokens with the sets that they hide. Assumes nothing.
-use Rattle.std.specs.Prelude.{Bool, true, false, ◌&&◌, List, [], ◌∷◌, map}
+use Rattle.std.specs.Prelude.{Bool, true, false, List, map}
+use Rattle.std.specs.List.{list_all}
 use Rattle.item.specs.declared.hide_set.HideSet.{HideSet}
 use Rattle.item.specs.Sets.{empty_set}
 use Rattle.item.specs.Tagged.{Tagged}
@@ -25,5 +26,4 @@ is_plain Nothing = false
 
 -- whether all pieces are tokens, so that there is nothing to join
 abbrev pub all_plain : List (Tagged Role) → Bool
-all_plain [] = true
-all_plain (x ∷ xs) = is_plain x.tag && all_plain xs
+all_plain xs = list_all (λ x. is_plain x.tag) xs

@@ -9,7 +9,6 @@ mod literal;
 mod place;
 mod result;
 mod spelling;
-mod spellings;
 
 pub use literal::write_literal;
 pub use place::place_result;
@@ -17,7 +16,7 @@ pub use spelling::Spelling;
 
 // What a token is in a result before joining: a token with its hide set, the operator ##, or a placemarker, whose
 // token says nothing.
-#[derive(Clone, Copy)]
+#[derive(Clone, Copy, PartialEq, Debug)]
 pub enum Role {
     Plain(HideSet),
     Join,

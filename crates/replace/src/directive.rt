@@ -55,7 +55,7 @@ fn undefine(at: u32, rest: Tokens<'_>) -> Directive<'_> {
 }
 
 fn faulty<'a>(kind: FaultKind, line: u32) -> Directive<'a> {
-    Directive::Faulty(Fault { kind, line })
+    Directive::Faulty(kind.at(line))
 }
 
 // Whether the directive is one that is not handled yet.

@@ -1,6 +1,7 @@
 // The listing that is printed.
 use source::Ending;
 use std::alloc::{AllocError, Global};
+use text::Fault;
 use token::TokenRef;
 
 // The digits of a line number are made once for the tokens in a row that stand on it.
@@ -20,19 +21,7 @@ impl Listing {
         }
     }
 
-    // Adds a token, where there is one.
-    pub(crate) fn add_some(
-        &mut self,
-        heap: Global,
-        token: Option<TokenRef<'_>>,
-    ) -> Result<(), AllocError> {
-        match token {
-            Some(token) => self.add(heap, token),
-            None => Ok(()),
-        }
-    }
-
-    fn add(&mut self, heap: Global, token: TokenRef<'_>) -> Result<(), AllocError> {
+    pub(crate) fn add(&mut self, heap: Global, token: TokenRef<'_>) -> Result<(), AllocError> {
         if token.line != self.line {
             self.line = token.line;
             let line = token.line;
@@ -50,11 +39,8 @@ impl Listing {
     pub(crate) fn close(&mut self, heap: Global, ending: Ending) -> Result<(), AllocError> {
         match ending {
             Ending::Whole => self.add_bytes(b"// end\n"),
-            Ending::Fails(fault) => {
-                let number = fault.kind.number();
-                let phase = fault.kind.phase();
-                let line = fault.line;
-                let closing = format!(in heap; "// fault {number} phase {phase} plan.c {line}\n")?;
+            Ending::Fails(Fault { kind, line }) => {
+                let closing = format!(in heap; "// {kind} plan.c {line}\n")?;
                 self.add_bytes(closing.as_bytes())
             }
         }

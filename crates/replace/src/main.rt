@@ -5,12 +5,12 @@
 use definition::read_definition;
 use definitions::Definitions;
 use directive::{Directive, directive_of};
-use expansion::{Expansion, Next};
+use expansion::Expansion;
 use invocation::TokenRun;
 use lexer::{LineTokens, next_tokens};
 use listing::Listing;
-use shelf::{Entry, Extent, Shelf, TableShelf};
-use source::{Ending, FileSource, Line, NextLine, Reader, Source};
+use shelf::{Catalog, Entry, Extent, Shelf};
+use source::{Ending, FileSource, Line, Reader, Source};
 use std::alloc::{AllocError, Global};
 use std::io;
 use std::io::{Read, Write};
@@ -37,7 +37,7 @@ enum Stop {
 #[derive(Drop)]
 struct Plan {
     definitions: Definitions,
-    run: TokenTable,
+    run: TokenTable<LONGEST_TEXT, LONGEST_TEXT>,
     expansion: Expansion,
     listing: Listing,
 }
@@ -46,7 +46,7 @@ impl Plan {
     fn new(heap: Global) -> Result<Plan, AllocError> {
         Ok(Plan {
             definitions: Definitions::new(heap)?,
-            run: TokenTable::new(heap, LONGEST_TEXT, LONGEST_TEXT)?,
+            run: TokenTable::new(heap)?,
             expansion: Expansion::new(heap)?,
             listing: Listing::new(heap),
         })
@@ -55,10 +55,9 @@ impl Plan {
     // The next line: its tokens go to the run, or end it and are obeyed.
     fn take_line(&mut self, heap: Global, tokens: Tokens<'_>) -> Result<Option<Stop>, AllocError> {
         let Some(directive) = directive_of(tokens) else {
-            for index in 0..tokens.len() {
-                if let Some(token) = tokens.get(index) {
-                    self.run.push(token);
-                }
+            for token in tokens {
+                // A run's tokens always fit.
+                let _fits = self.run.push(token);
             }
             return Ok(None);
         };
@@ -76,12 +75,12 @@ impl Plan {
             ending,
         };
         loop {
-            match self.expansion.next(context, &mut run) {
-                Next::Token => self.listing.add_some(heap, self.expansion.token())?,
-                Next::End(ending) => {
-                    self.run.clear();
-                    return Ok(ending);
-                }
+            if let Err(ending) = self.expansion.next(context, &mut run) {
+                self.run.clear();
+                return Ok(ending);
+            }
+            if let Some(token) = self.expansion.token() {
+                self.listing.add(heap, token)?;
             }
         }
     }
@@ -101,31 +100,21 @@ impl Plan {
     }
 
     fn define(&mut self, line: u32, tokens: Tokens<'_>) -> Result<(), Fault> {
-        let Some(definition) = read_definition(tokens) else {
-            return Err(Fault {
-                kind: FaultKind::BadDefinition,
-                line,
-            });
-        };
-        match self.definitions.define(definition) {
-            Ok(()) => Ok(()),
-            Err(kind) => Err(Fault { kind, line }),
-        }
+        let definition = read_definition(tokens).ok_or(FaultKind::BadDefinition.at(line))?;
+        self.definitions
+            .define(definition)
+            .map_err(|kind| kind.at(line))
     }
 
     fn undefine(&mut self, line: u32, name: &[u8]) -> Result<(), Fault> {
-        if self.definitions.undefine(name) {
-            return Ok(());
-        }
-        Err(Fault {
-            kind: FaultKind::BadDefinition,
-            line,
-        })
+        self.definitions
+            .undefine(name)
+            .map_err(|kind| kind.at(line))
     }
 }
 
 // The shelf of one file: the text is its name and then its content.
-fn shelf_of(heap: Global, text: &[u8]) -> Result<TableShelf<'_>, AllocError> {
+fn shelf_of(heap: Global, text: &[u8]) -> Result<Catalog<'_>, AllocError> {
     let name = Extent {
         start: 0,
         len: NAME.len(),
@@ -134,7 +123,7 @@ fn shelf_of(heap: Global, text: &[u8]) -> Result<TableShelf<'_>, AllocError> {
         start: NAME.len(),
         len: text.len().saturating_sub(NAME.len()),
     };
-    TableShelf::new(heap, text, &[Entry { name, content }])
+    Catalog::from_table(heap, text, &[Entry { name, content }])
 }
 
 // Lists the whole plan.
@@ -143,7 +132,7 @@ fn list<B: Source + Drop>(heap: Global, mut reader: Reader<B>) -> Result<Listing
     let mut line = Line::new(heap)?;
     let mut tokens = LineTokens::new(heap)?;
     let stop = loop {
-        if let NextLine::End(ending) = next_tokens(&mut reader, &mut line, &mut tokens) {
+        if let Err(ending) = next_tokens(&mut reader, &mut line, &mut tokens) {
             break Stop::At(plan.end_run(heap, ending)?);
         }
         if let Some(stop) = plan.take_line(heap, tokens.tokens())? {

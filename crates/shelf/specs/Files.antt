@@ -1,11 +1,7 @@
 -- What a shelf keeps: a list of files. Assumes nothing.
-use Rattle.std.specs.Prelude.{ℕ, zero, suc, cond, List, [], ◌∷◌, Some, None, Option}
-use Rattle.std.specs.List.{slice_get}
-use Rattle.std.specs.Option.{option_map}
+use Rattle.std.specs.Prelude.{ℕ, List, Option, Result, position, slice_get, ok_or, option_map}
 use Rattle.std.specs.Str.{bytes_eq}
 use Rattle.shelf.specs.declared.Ending.{Ending}
-use Rattle.shelf.specs.declared.Reading.{Reading}
-use Rattle.shelf.specs.declared.Reading.TheVariants.{Byte, End}
 
 -- a file: its name, its bytes, and how they end
 pub record File : Type 0 where
@@ -15,15 +11,12 @@ pub record File : Type 0 where
 
 -- the place, counted from 0, of the first file with the name
 abbrev pub first_named : List ℕ → List File → Option ℕ
-first_named n [] = None
-first_named n (f ∷ fs) = cond (bytes_eq f.name n) (Some 0) (option_map suc (first_named n fs))
+first_named n fs = position (λ f. bytes_eq f.name n) fs
 
 -- the byte at an offset, and at or behind the end the ending
-abbrev pub at : List ℕ → Ending → ℕ → Reading
-at [] e i = End e
-at (b ∷ bs) e zero = Byte b
-at (b ∷ bs) e (suc i) = at bs e i
+abbrev pub at : List ℕ → Ending → ℕ → Result ℕ Ending
+at bs e i = ok_or (slice_get bs i) e
 
 -- what a file holds at an offset, and none for a number outside the list
-abbrev pub read_at : List File → ℕ → ℕ → Option Reading
+abbrev pub read_at : List File → ℕ → ℕ → Option (Result ℕ Ending)
 read_at fs n i = option_map (λ f. at f.bytes f.ending i) (slice_get fs n)

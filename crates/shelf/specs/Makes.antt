@@ -1,10 +1,21 @@
--- The files of a table shelf and of a pack shelf. Assumes nothing.
+-- The files of a table and of a pack. Assumes nothing.
 use Rattle.std.specs.Prelude.{ℕ, zero, suc, ◌+◌, ◌*◌, Bool, cond, ◌&&◌, List, [], ◌∷◌, map, length, take, drop, Some, None, vec_items, Option, nat_le}
+use Rattle.std.specs.Borrow.{Bor}
+use Rattle.std.specs.List.{filter}
+use Rattle.text.specs.declared.Extent.{Extent}
 use Rattle.shelf.specs.declared.Ending.TheVariants.{Whole, Broken}
-use Rattle.shelf.specs.declared.catalog.Extent.{Extent}
-use Rattle.shelf.specs.declared.catalog.Entry.{Entry}
+use Rattle.shelf.specs.declared.table.Entry.{Entry}
+use Rattle.shelf.specs.declared.catalog.StoredFile.{StoredFile}
 use Rattle.shelf.specs.declared.catalog.Catalog.{Catalog}
 use Rattle.shelf.specs.Files.{File}
+
+-- the file that a catalog keeps
+abbrev pub file_of : StoredFile → File
+file_of f = record { name = f.name.now; bytes = f.content.now; ending = f.ending }
+
+-- the files of a catalog
+abbrev pub catalog_files : Catalog → List File
+catalog_files c = map file_of (vec_items c.files)
 
 -- the bytes of an extent, as far as the text goes
 abbrev pub part : List ℕ → Extent → List ℕ
@@ -18,23 +29,18 @@ fits text e = nat_le (e.start + e.len) (length text)
 abbrev pub entry_file : List ℕ → Entry → File
 entry_file text e = record { name = part text e.name; bytes = part text e.content; ending = cond (fits text e.content) Whole Broken }
 
--- the files of a catalog
-abbrev pub catalog_files : Catalog → List File
-catalog_files c = map (entry_file c.text.now) (vec_items c.entries)
-
--- a table shelf leaves out an entry whose name runs past the text
+-- the files of a table, without the entries whose names run past the text
 abbrev pub table_files : List ℕ → List Entry → List File
-table_files text [] = []
-table_files text (e ∷ es) = cond (fits text e.name) (entry_file text e ∷ table_files text es) (table_files text es)
+table_files text es = map (entry_file text) (filter (λ e. fits text e.name) es)
 
 -- the first record of a pack, and the bytes behind it
 pub record Record : Type 0 where
   pub file : File
   pub rest : List ℕ
 
--- the record of an entry of a pack: behind it is what lies behind its content
-abbrev pub entry_record : List ℕ → Entry → Record
-entry_record pack e = record { file = entry_file pack e; rest = drop (e.content.start + e.content.len) pack }
+-- the record of a file that is read from a pack, and of what lies behind it
+abbrev pub record_of : StoredFile × Bor (List ℕ) → Record
+record_of p = record { file = file_of p.0; rest = p.1.now }
 
 -- behind the name: the content's length in two bytes, high first, and the content, which may be cut
 abbrev pub headed : List ℕ → List ℕ → Option Record

@@ -1,5 +1,4 @@
 pub mod Cutting
-pub mod Held
 pub mod LineByLine
 pub mod Mapped
 pub mod Mapping

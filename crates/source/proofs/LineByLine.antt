@@ -1,5 +1,5 @@
 -- Cutting into lines goes by what stands before the next newline. Assumes nothing.
-use Rattle.std.proofs.Common.{◌≡◌, ℕ, suc, ◌+◌, ◌<◌, ◌≤◌, true, false, eqb, ltb, List, [], ◌∷◌, length, sym, refl, ap, ◌∙◌, ⊎_elim, add-zero, arith}
+use Rattle.std.proofs.Common.{◌≡◌, ℕ, suc, ◌+◌, ◌<◌, ◌≤◌, true, false, eqb, List, [], ◌∷◌, length, sym, refl, ap, ◌∙◌, ⊎_elim, add-zero, arith}
 use Rattle.std.proofs.lemmas.Bool.{cond-false, ne_eqb, lt-ltb, le-ltb, cases_lt}
 use Rattle.text.specs.declared.FaultKind.TheVariants.{LongLine}
 use Rattle.text.specs.declared.Placed.{Placed}
@@ -10,12 +10,12 @@ use Rattle.source.specs.Pieces.{◌▸▸◌, OneLine}
 use Rattle.source.specs.Pieces.OneLine.{and}
 use Rattle.source.specs.Stream.{Stream, ◌▸◌, ends}
 use Rattle.source.specs.Texts.{failing}
-use Rattle.source.proofs.Cutting.{next, onto_all, onto_line, onto-stop}
+use Rattle.source.proofs.Cutting.{newline, more, limit, onto_all, onto_line, onto-stop}
 
 -- one byte more of a line that has some
 one_more : (n first : ℕ) (p : Placed) (s : Stream) → 0 < n → n < 4095 → eqb p.byte 10 ≡ false → cutting n first (p ▸ s) ≡ onto p (cutting (n + 1) first s)
 one_more n first p s some room e =
-    (λ i. next n first p s (e i) (lt-ltb n 4095 room i)) ∙ ap (λ l. onto p (cutting (n + 1) l s)) (cond-false _ p.line first (ne_eqb n 0 (λ z. omega arith)))
+    more n first p s e (lt-ltb n 4095 room) ∙ ap (λ l. onto p (cutting (n + 1) l s)) (cond-false _ p.line first (ne_eqb n 0 (λ z. omega arith)))
 
 -- bytes that fit the line
 fitting : (n first : ℕ) (ps : List Placed) (s : Stream) → 0 < n → OneLine ps → n + length ps ≤ 4095 → cutting n first (ps ▸▸ s) ≡ onto_all ps (cutting (n + length ps) first s)
@@ -30,21 +30,17 @@ full n first [] s some room o over = absurd (omega arith)
 full n first (p ∷ ps) s some room (and e o) over =
     ⊎_elim
     (λ less. one_more n first p (ps ▸▸ s) some less e ∙ ap (onto p) (full (n + 1) first ps s (omega arith) (omega arith) o (omega arith)))
-    (λ more. (λ i. next n first p (ps ▸▸ s) (e i) (le-ltb n 4095 more i)))
+    (λ over. limit n first p (ps ▸▸ s) e (le-ltb n 4095 over))
     (cases_lt n 4095)
 
 -- the first byte of a line
 begun : (p : Placed) (s : Stream) → eqb p.byte 10 ≡ false → cutting 0 0 (p ▸ s) ≡ onto p (cutting 1 p.line s)
-begun p s e = λ i. next 0 0 p s (e i) true
-
--- a newline
-ended : (k first : ℕ) (n : Placed) (s : Stream) → eqb n.byte 10 ≡ true → cutting k first (n ▸ s) ≡ line [] n.line (cutting 0 0 s)
-ended k first n s e = λ i. next k first n s (e i) (ltb k 4095)
+begun p s e = more 0 0 p s e refl
 
 short : (ps : List Placed) (n : Placed) (s : Stream) → OneLine ps → length ps ≤ 4095 → eqb n.byte 10 ≡ true → cutting 0 0 (ps ▸▸ n ▸ s) ≡ line ps n.line (cutting 0 0 s)
-short [] n s o fits h = ended 0 0 n s h
+short [] n s o fits h = newline 0 0 n s h
 short (p ∷ ps) n s (and e o) fits h =
-    begun p (ps ▸▸ n ▸ s) e ∙ ap (onto p) (fitting 1 p.line ps (n ▸ s) (omega arith) o (omega arith) ∙ ap (onto_all ps) (ended (1 + length ps) p.line n s h) ∙ onto_line ps n.line (cutting 0 0 s))
+    begun p (ps ▸▸ n ▸ s) e ∙ ap (onto p) (fitting 1 p.line ps (n ▸ s) (omega arith) o (omega arith) ∙ ap (onto_all ps) (newline (1 + length ps) p.line n s h) ∙ onto_line ps n.line (cutting 0 0 s))
 
 long : (p : Placed) (ps : List Placed) (s : Stream) → OneLine (p ∷ ps) → 4095 < length (p ∷ ps) → cutting 0 0 ((p ∷ ps) ▸▸ s) ≡ stop (failing LongLine p.line)
 long p ps s (and e o) over = begun p (ps ▸▸ s) e ∙ ap (onto p) (full 1 p.line ps s (omega arith) (omega arith) o (omega arith))

@@ -7,8 +7,8 @@ use Rattle.text.specs.declared.Placed.{Placed}
 use Rattle.source.specs.declared.comment.State.TheVariants.{Code, Literal, Block, LineComment}
 use Rattle.text.specs.Bytes.{mark}
 use Rattle.source.specs.Comments.{comments}
-use Rattle.source.specs.Pieces.{◌▸▸◌, line_ends, begins, Inside, OneLine, NoClose, Maps}
-use Rattle.source.specs.Stream.{Stream, ◌▸◌, ends}
+use Rattle.source.specs.Pieces.{◌▸▸◌, line_ends, Inside, OneLine, NoClose, Maps}
+use Rattle.source.specs.Stream.{Stream, ◌▸◌, ends, begins}
 use Rattle.source.proofs.Steps.{differs, code_mark, code_slash, code_kept, code_newline, literal_newline, literal-closed, literal_more, literal-taken, slash_star, slash_slash, block_more, block_closed, line_newline, line_more}
 
 -- a literal's bytes are handed on

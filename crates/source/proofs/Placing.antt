@@ -1,12 +1,7 @@
 -- Bytes and their lines, side by side. Assumes nothing.
-use Rattle.std.proofs.Common.{◌≡◌, ℕ, suc, List, [], ◌∷◌, ◌++◌, map, length, refl, ap, arith}
+use Rattle.std.proofs.Common.{◌≡◌, ℕ, List, [], ◌∷◌, ◌++◌, map, length, refl, ap, arith}
 use Rattle.text.specs.declared.Placed.{Placed}
 use Rattle.text.specs.Placing.{placed, byte_of, line_of}
-
-pub length-placed : (bs ls : List ℕ) → length ls ≡ length bs → length (placed bs ls) ≡ length bs
-length-placed [] ls e = refl
-length-placed (b ∷ bs) [] e = absurd (omega arith)
-length-placed (b ∷ bs) (l ∷ ls) e = ap suc (length-placed bs ls (omega arith))
 
 pub placed-push : (bs ls : List ℕ) (p : Placed) → length ls ≡ length bs → placed (bs ++ p.byte ∷ []) (ls ++ p.line ∷ []) ≡ placed bs ls ++ p ∷ []
 placed-push [] [] p e = refl

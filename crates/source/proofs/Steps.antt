@@ -6,8 +6,7 @@ use Rattle.source.specs.declared.comment.State.TheVariants.{Code, Literal, Slash
 use Rattle.source.specs.declared.comment.Step.{Step}
 use Rattle.text.specs.Bytes.{mark}
 use Rattle.source.specs.Comments.{hand, emit, comments}
-use Rattle.source.specs.Pieces.{begins}
-use Rattle.source.specs.Stream.{Stream, ◌▸◌, ends}
+use Rattle.source.specs.Stream.{Stream, ◌▸◌, ends, begins}
 
 -- a byte that is one number is no other
 pub differs : (b m n : ℕ) → eqb b m ≡ true → eqb m n ≡ false → eqb b n ≡ false

@@ -1,11 +1,9 @@
 -- A stream cut into logical lines. Assumes nothing.
-use Rattle.std.specs.Prelude.{ℕ, ◌+◌, true, false, cond, List, [], ◌∷◌, vec_items, ◌==◌, nat_lt}
+use Rattle.std.specs.Prelude.{ℕ, ◌+◌, true, false, cond, List, [], ◌∷◌, Ok, Err, Result, vec_items, ◌==◌, nat_lt}
 use Rattle.source.specs.declared.Ending.{Ending}
 use Rattle.text.specs.declared.FaultKind.TheVariants.{LongLine}
 use Rattle.text.specs.declared.Placed.{Placed}
 use Rattle.source.specs.declared.line.Line.{Line}
-use Rattle.source.specs.declared.reader.NextLine.{NextLine}
-use Rattle.source.specs.declared.reader.NextLine.TheVariants.{Newline, End}
 use Rattle.text.specs.Placing.{placed}
 use Rattle.source.specs.Stream.{Stream, ◌▸◌, ends}
 use Rattle.source.specs.Texts.{failing}
@@ -36,9 +34,9 @@ cutting n first (p ▸ s) =
     ]
 
 -- the first line, as an answer, and its bytes; an ending stays
-abbrev pub line_head : Lines → NextLine
-line_head (line ps n ls) = Newline n
-line_head (stop e) = End e
+abbrev pub line_head : Lines → Result ℕ Ending
+line_head (line ps n ls) = Ok n
+line_head (stop e) = Err e
 
 abbrev pub line_bytes : Lines → List Placed
 line_bytes (line ps n ls) = ps

@@ -8,7 +8,7 @@ use Rattle.text.specs.declared.FaultKind.TheVariants.{OpenComment}
 use Rattle.text.specs.declared.Placed.{Placed}
 use Rattle.text.specs.Bytes.{mark}
 use Rattle.source.specs.Comments.{uncommented}
-use Rattle.source.specs.Stream.{Stream, ◌▸◌, ends}
+use Rattle.source.specs.Stream.{Stream, ◌▸◌, ends, begins}
 
 -- bytes in front of a stream
 abbrev pub ◌▸▸◌ : List Placed → Stream → Stream
@@ -20,11 +20,6 @@ infixr 50 ◌▸▸◌
 abbrev pub line_ends : Stream → Bool
 line_ends (p ▸ s) = p.byte == 10
 line_ends (ends e) = true
-
--- whether the bytes begin with the byte
-abbrev pub begins : ℕ → Stream → Bool
-begins b (p ▸ s) = p.byte == b
-begins b (ends e) = false
 
 -- what stands in a literal behind the mark m that opens it: bytes, and a backslash with the byte that it takes along
 pub data Inside (m : ℕ) : List Placed → Type 0 where

@@ -1,9 +1,7 @@
 -- What a source still has to give. Assumes nothing.
-use Rattle.std.specs.Prelude.{ℕ, suc}
+use Rattle.std.specs.Prelude.{ℕ, suc, Bool, false, ◌==◌, Ok, Err, Result}
 use Rattle.text.specs.declared.Placed.{Placed}
 use Rattle.source.specs.declared.Ending.{Ending}
-use Rattle.source.specs.declared.Taken.{Taken}
-use Rattle.source.specs.declared.Taken.TheVariants.{Byte, End}
 
 -- placed bytes, and then how they end
 pub data Stream : Type 0 where
@@ -12,9 +10,9 @@ pub data Stream : Type 0 where
 
 infixr 50 ◌▸◌
 -- the first of a stream, or its ending
-abbrev pub head : Stream → Taken
-head (p ▸ s) = Byte p
-head (ends e) = End e
+abbrev pub head : Stream → Result Placed Ending
+head (p ▸ s) = Ok p
+head (ends e) = Err e
 
 -- what is left behind the first; an ending stays
 abbrev pub tail : Stream → Stream
@@ -22,16 +20,16 @@ tail (p ▸ s) = s
 tail (ends e) = ends e
 
 -- an answer put back in front
-abbrev pub put : Taken → Stream → Stream
-put (Byte p) s = p ▸ s
-put (End e) s = ends e
+abbrev pub put : Result Placed Ending → Stream → Stream
+put (Ok p) s = p ▸ s
+put (Err e) s = ends e
 
 -- how many bytes are to come
 abbrev pub size : Stream → ℕ
 size (p ▸ s) = suc (size s)
 size (ends e) = 0
 
--- the byte of an answer, and 0 of an ending
-abbrev pub pending : Taken → ℕ
-pending (Byte p) = p.byte
-pending (End e) = 0
+-- whether the first byte is the one given
+abbrev pub begins : ℕ → Stream → Bool
+begins b (p ▸ s) = p.byte == b
+begins b (ends e) = false

@@ -1,18 +1,16 @@
 -- A text as a stream: bytes placed on their lines. Assumes nothing.
-use Rattle.std.specs.Prelude.{◌≡◌, ℕ, ◌+◌, cond, List, [], ◌∷◌, drop, Some, None, ◌==◌, nat_lt}
+use Rattle.std.specs.Prelude.{◌≡◌, ℕ, ◌+◌, cond, List, [], ◌∷◌, drop, Some, None, Ok, Err, Result, ◌==◌, nat_lt}
 use Rattle.std.specs.List.{slice_get}
 use Rattle.shelf.specs.Files.{File, at}
 use Rattle.shelf.specs.declared.Ending as shelf
 use Rattle.shelf.specs.declared.Ending.TheVariants as file
-use Rattle.shelf.specs.declared.Reading.{Reading}
 use Rattle.source.specs.declared.Ending.{Ending}
 use Rattle.source.specs.declared.Ending.TheVariants.{Whole, Fails}
 use Rattle.text.specs.declared.FaultKind.{FaultKind}
 use Rattle.text.specs.declared.FaultKind.TheVariants.{BrokenFile, BadByte, LongFile}
 use Rattle.source.specs.declared.bottom.FileSource.{FileSource}
 use Rattle.source.specs.declared.position.Position.{Position}
-use Rattle.source.specs.declared.Taken.{Taken}
-use Rattle.source.specs.declared.Taken.TheVariants.{Byte, End}
+use Rattle.text.specs.declared.Placed.{Placed}
 use Rattle.text.specs.Bytes.{admitted}
 use Rattle.source.specs.Stream.{Stream, ends, head, tail, put}
 
@@ -29,10 +27,10 @@ closing file.Broken line = failing BrokenFile line
 abbrev pub line_behind : ℕ → ℕ → ℕ
 line_behind b line = cond (b == 10) (line + 1) line
 
--- what a byte on a line gives behind n others: one that is not admitted is a fault, and the 65,536th is another in its place
-abbrev pub placing : ℕ → ℕ → ℕ → Taken
+-- what a byte on a line gives behind n others: one that is not admitted is a fault, and the 65,536th is another
+abbrev pub placing : ℕ → ℕ → ℕ → Result Placed Ending
 placing n line b =
-    cond (nat_lt n 65535) (cond (admitted b) (Byte (record { byte = b; line = line })) (End (failing BadByte line))) (End (failing LongFile line))
+    cond (nat_lt n 65535) (cond (admitted b) (Ok (record { byte = b; line = line })) (Err (failing BadByte line))) (Err (failing LongFile line))
 
 -- bytes and their ending, with n bytes before them, from a line on
 abbrev pub text : ℕ → ℕ → List ℕ → shelf.Ending → Stream
@@ -60,6 +58,6 @@ abbrev pub file_text : List File → ℕ → Stream
 file_text fs n = elim (slice_get fs n) [ None ↦ ends Whole | Some f ↦ text 0 1 f.bytes f.ending ]
 
 -- an answer and the position behind it, for whatever text has the reading at the position
-abbrev pub Reads : Position → Reading → Taken → Position → Type 0
+abbrev pub Reads : Position → Result ℕ shelf.Ending → Result Placed Ending → Position → Type 0
 Reads p i r q =
     (bs : List ℕ) (e : shelf.Ending) → at bs e p.offset ≡ i → (r ≡ head (text_from p bs e)) × (text_from q bs e ≡ tail (text_from p bs e))

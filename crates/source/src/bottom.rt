@@ -1,27 +1,29 @@
 // The sources at the bottom: a file of a shelf, and a text in memory.
 ghost use Rattle.std.specs.Prelude.{◌≡◌, ◌≤◌};
-ghost use Rattle.source.specs.declared.Taken.TheVariants.{End};
-ghost use Rattle.source.specs.Texts.{failing, line_behind, Reads, memory_text, text_from, file_left, file_text};
-ghost use Rattle.shelf.specs.Files.{at};
+ghost use Rattle.source.specs.Texts.{closing, line_behind, placing, Reads, memory_text, text_from, file_left, file_text};
 ghost use Rattle.shelf.specs.declared.Ending.TheVariants.{Whole as WholeFile};
 
 use crate::position::Position;
-use crate::{Ending, Source, Taken};
-use shelf::{Reading, Shelf};
+use crate::{Ending, Source};
+use shelf::Shelf;
 use text::bytes::is_admitted;
-use text::{Fault, FaultKind, Placed};
+use text::{FaultKind, Placed};
 
 // The bytes that a text may have.
 pub const LONGEST_TEXT: usize = 65535;
 
-fn fails(kind: FaultKind, line: u32) -> Taken
-    ensures { result ≡ End (failing kind line) }
+// What the ending of a file is on a line.
+fn closing(ending: shelf::Ending, line: u32) -> Ending
+    ensures { result ≡ closing ending line }
 {
-    Taken::End(Ending::Fails(Fault { kind, line }))
+    match ending {
+        shelf::Ending::Whole => Ending::Whole,
+        shelf::Ending::Broken => FaultKind::BrokenFile.at(line).into(),
+    }
 }
 
 // The line behind a byte.
-fn next_line(byte: u8, line: u32) -> u32
+fn line_behind(byte: u8, line: u32) -> u32
     requires { line ≤ 65535 }
     ensures { result ≡ line_behind byte line }
 {
@@ -35,28 +37,34 @@ impl Position {
         Position { offset: 0, line: 1 }
     }
 
+    // A byte that stands at this position, where a text may have it there.
+    fn place(self, byte: u8) -> Result<Placed, Ending>
+        ensures { result ≡ placing self.offset self.line byte }
+    {
+        let Position { offset, line } = self;
+        if offset >= LONGEST_TEXT {
+            Err(FaultKind::LongFile.at(line).into())
+        } else if !is_admitted(byte) {
+            Err(FaultKind::BadByte.at(line).into())
+        } else {
+            Ok(Placed { byte, line })
+        }
+    }
+
     // The answer where a text has the reading at this position; behind a byte the position moves on.
-    fn take(&mut self, reading: Reading) -> Taken
+    fn take(&mut self, reading: Result<u8, shelf::Ending>) -> Result<Placed, Ending>
         ensures { Reads self.old reading result self.new }
     {
-        let Position { offset, line } = *self;
-        match reading {
-            Reading::End(shelf::Ending::Whole) => Taken::End(Ending::Whole),
-            Reading::End(shelf::Ending::Broken) => fails(FaultKind::BrokenFile, line),
-            Reading::Byte(byte) => {
-                if offset >= LONGEST_TEXT {
-                    return fails(FaultKind::LongFile, line);
-                }
-                if !is_admitted(byte) {
-                    return fails(FaultKind::BadByte, line);
-                }
-                *self = Position {
-                    offset: offset + 1,
-                    line: next_line(byte, line),
-                };
-                Taken::Byte(Placed { byte, line })
-            }
-        }
+        let byte = match reading {
+            Ok(byte) => byte,
+            Err(ending) => return Err(closing(ending, self.line)),
+        };
+        let placed = self.place(byte)?;
+        *self = Position {
+            offset: self.offset + 1,
+            line: line_behind(byte, self.line),
+        };
+        Ok(placed)
     }
 }
 
@@ -84,22 +92,11 @@ impl<'a, S: Shelf> FileSource<'a, S> {
 impl<S: Shelf> Source for FileSource<'_, S> {
     ghost rest = { file_left S.Shelf.files };
 
-    fn take(&mut self) -> Taken {
+    fn take(&mut self) -> Result<Placed, Ending> {
         match self.shelf.read(self.file, self.position.offset) {
             Some(reading) => self.position.take(reading),
-            None => Taken::End(Ending::Whole),
+            None => Err(Ending::Whole),
         }
-    }
-}
-
-// What a text in memory has at an offset.
-fn reading_at(text: &[u8], offset: usize) -> Reading
-    ensures { result ≡ at text.now WholeFile offset }
-{
-    if offset < text.len() {
-        Reading::Byte(text[offset])
-    } else {
-        Reading::End(shelf::Ending::Whole)
     }
 }
 
@@ -125,8 +122,8 @@ impl<'a> TextSource<'a> {
 impl Source for TextSource<'_> {
     ghost rest = { λ s. text_from s.position s.text.now WholeFile };
 
-    fn take(&mut self) -> Taken {
-        let reading = reading_at(self.text, self.position.offset);
-        self.position.take(reading)
+    fn take(&mut self) -> Result<Placed, Ending> {
+        let byte = self.text.get(self.position.offset).copied();
+        self.position.take(byte.ok_or(shelf::Ending::Whole))
     }
 }

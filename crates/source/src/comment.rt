@@ -4,9 +4,9 @@ ghost use Rattle.source.specs.Stream.{head, tail};
 ghost use Rattle.source.specs.Comments.{silent, hand, behind_slash, in_code, step as step_of, at_end, uncommented, uncommented_from};
 ghost use Rattle.source.specs.Pieces.{PieceByPiece};
 
-use crate::{Ending, Source, Taken};
+use crate::{Ending, Source};
 use text::bytes::{is_mark, quote};
-use text::{Fault, FaultKind, Placed};
+use text::{FaultKind, Placed};
 
 // What is open.
 #[derive(Clone, Copy)]
@@ -59,7 +59,7 @@ impl Step {
         Step {
             out: Some(Placed { byte: b'/', line }),
             behind: self.out,
-            next: self.next,
+            ..self
         }
     }
 }
@@ -127,7 +127,7 @@ impl<B: Source> Comments<B> {
     }
 
     // The answer at an ending of the source below.
-    fn end(&mut self, ending: Ending) -> Taken
+    fn end(&mut self, ending: Ending) -> Result<Placed, Ending>
         ensures answer { result ≡ head (at_end self.old.pending.state ending) }
         ensures after { at_end self.new.pending.state ending ≡ tail (at_end self.old.pending.state ending) }
         ensures same { (self.new.below ≡ self.old.below) × (self.new.pending.queued ≡ self.old.pending.queued) }
@@ -135,15 +135,10 @@ impl<B: Source> Comments<B> {
         match (self.pending.state, ending) {
             (State::SlashSeen(line), _) => {
                 self.pending.state = State::Code;
-                Taken::Byte(Placed { byte: b'/', line })
+                Ok(Placed { byte: b'/', line })
             }
-            (State::Block(line, _), Ending::Whole) => {
-                Taken::End(Ending::Fails(Fault {
-                    kind: FaultKind::OpenComment,
-                    line,
-                }))
-            }
-            _ => Taken::End(ending),
+            (State::Block(line, _), Ending::Whole) => Err(FaultKind::OpenComment.at(line).into()),
+            _ => Err(ending),
         }
     }
 }
@@ -151,15 +146,14 @@ impl<B: Source> Comments<B> {
 impl<B: Source> Source for Comments<B> {
     ghost rest = { λ s. uncommented_from s.pending (B.Source.rest s.below) };
 
-    fn take(&mut self) -> Taken {
-        if let Some(queued) = self.pending.queued {
-            self.pending.queued = None;
-            return Taken::Byte(queued);
+    fn take(&mut self) -> Result<Placed, Ending> {
+        if let Some(queued) = self.pending.queued.take() {
+            return Ok(queued);
         }
         loop {
             let placed = match self.below.take() {
-                Taken::Byte(placed) => placed,
-                Taken::End(ending) => return self.end(ending),
+                Ok(placed) => placed,
+                Err(ending) => return self.end(ending),
             };
             let Step { out, behind, next } = self.pending.state.step(placed);
             self.pending = Pending {
@@ -167,7 +161,7 @@ impl<B: Source> Source for Comments<B> {
                 queued: behind,
             };
             if let Some(out) = out {
-                return Taken::Byte(out);
+                return Ok(out);
             }
         }
     }

@@ -3,12 +3,12 @@
 #![tactic(auto)]
 
 ghost use Rattle.std.specs.Prelude.{◌≡◌};
-ghost use Rattle.source.specs.Stream.{Stream, head, tail, pending};
+ghost use Rattle.source.specs.declared.Ending.TheVariants.{Fails};
+ghost use Rattle.source.specs.Stream.{Stream, head, tail};
 
 mod bottom;
 mod comment;
 mod line;
-mod lines;
 mod lookahead;
 mod position;
 mod reader;
@@ -16,34 +16,22 @@ mod splice;
 mod trigraph;
 
 pub use bottom::{FileSource, TextSource};
-pub use line::Line;
-pub use lines::LONGEST_LINE;
-pub use reader::{NextLine, Pending, Reader};
+pub use line::{LONGEST_LINE, Line};
+pub use reader::{Pending, Reader};
 use text::{Fault, Placed};
 
 // How a source ends.
-#[derive(Clone, Copy)]
+#[derive(Clone, Copy, PartialEq, Debug)]
 pub enum Ending {
     Whole,
     Fails(Fault),
 }
 
-// What a source answers: its next byte, or at the end how it ends.
-#[derive(Clone, Copy)]
-pub enum Taken {
-    Byte(Placed),
-    End(Ending),
-}
+impl From<Fault> for Ending {
+    ghost from_gives = { λ f e. e ≡ Fails f };
 
-impl Taken {
-    // The byte, and 0 of an ending.
-    fn byte(self) -> u8
-        ensures { result ≡ pending self }
-    {
-        match self {
-            Taken::Byte(placed) => placed.byte,
-            Taken::End(_) => 0,
-        }
+    fn from(fault: Fault) -> Ending {
+        Ending::Fails(fault)
     }
 }
 
@@ -52,7 +40,7 @@ pub trait Source {
     ghost rest: { Self → Stream };
 
     // Removes and answers the first byte, or at the end the ending every time.
-    fn take(&mut self) -> Taken
+    fn take(&mut self) -> Result<Placed, Ending>
         ensures answer { result ≡ head (rest self.old) }
         ensures after { rest self.new ≡ tail (rest self.old) };
 }

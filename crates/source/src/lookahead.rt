@@ -1,10 +1,10 @@
 // A source that takes back up to two bytes.
-ghost use Rattle.std.specs.Prelude.{◌≡◌};
+ghost use Rattle.std.specs.Prelude.{◌≡◌, if◌then◌else◌};
 ghost use Rattle.source.specs.declared.lookahead.Held.TheVariants.{Nothing};
 ghost use Rattle.source.specs.Lookahead.{popped, ahead_left};
-ghost use Rattle.source.specs.Stream.{◌▸◌, head, tail};
+ghost use Rattle.source.specs.Stream.{◌▸◌, head, tail, begins};
 
-use crate::{Source, Taken};
+use crate::{Ending, Source};
 use text::Placed;
 
 // The bytes that were put back.
@@ -46,7 +46,7 @@ impl<B: Source> Lookahead<B> {
     }
 
     // The next byte, or the ending.
-    pub(crate) fn next(&mut self) -> Taken
+    pub(crate) fn next(&mut self) -> Result<Placed, Ending>
         ensures answer { result ≡ head (ahead_left B.Source.rest self.old) }
         ensures after { ahead_left B.Source.rest self.new ≡ tail (ahead_left B.Source.rest self.old) }
         ensures held { self.new.held ≡ popped self.old.held }
@@ -55,12 +55,28 @@ impl<B: Source> Lookahead<B> {
             Held::Nothing => self.below.take(),
             Held::One(first) => {
                 self.held = Held::Nothing;
-                Taken::Byte(first)
+                Ok(first)
             }
             Held::Two(first, second) => {
                 self.held = Held::One(second);
-                Taken::Byte(first)
+                Ok(first)
             }
+        }
+    }
+
+    // Takes the next byte away where it is the one given, and answers whether it is.
+    pub(crate) fn skip(&mut self, byte: u8) -> bool
+        requires { popped self.old.held ≡ Nothing }
+        ensures answer { result ≡ begins byte (ahead_left B.Source.rest self.old) }
+        ensures after { ahead_left B.Source.rest self.new ≡ (if result then tail (ahead_left B.Source.rest self.old) else ahead_left B.Source.rest self.old) }
+    {
+        match self.next() {
+            Ok(next) if next.byte == byte => true,
+            Ok(other) => {
+                self.put_back(other);
+                false
+            }
+            Err(_) => false,
         }
     }
 }

@@ -1,7 +1,6 @@
 // The three layers over a bottom source, and cutting what they give into logical lines.
-ghost use Rattle.std.specs.Prelude.{◌≡◌};
+ghost use Rattle.std.specs.Prelude.{◌≡◌, [], OnOk};
 ghost use Rattle.source.specs.declared.Ending.TheVariants.{Fails};
-ghost use Rattle.source.specs.declared.reader.NextLine.TheVariants.{End};
 ghost use Rattle.source.specs.LineLaw.{LineByLine};
 ghost use Rattle.source.specs.Lines.{held, line_head, line_bytes, line_tail, stop as only};
 ghost use Rattle.source.specs.Texts.{file_left};
@@ -15,16 +14,9 @@ use crate::lookahead::{Held, Lookahead};
 use crate::position::Position;
 use crate::splice::Splices;
 use crate::trigraph::Trigraphs;
-use crate::{Ending, Source, Taken, comment};
+use crate::{Ending, Source, comment};
 use shelf::Shelf;
 use text::{Fault, FaultKind};
-
-// What the next line is: its bytes and a newline on a physical line, or the ending.
-#[derive(Clone, Copy)]
-pub enum NextLine {
-    Newline(u32),
-    End(Ending),
-}
 
 // What the layers hold between two bytes.
 #[derive(Clone, Copy)]
@@ -64,46 +56,49 @@ impl<B: Source> Reader<B> {
         }
     }
 
-    // Reads the next logical line into `line`, or answers how the lines end and leaves `line` empty.
-    pub fn next_line(&mut self, line: &mut Line) -> NextLine
+    // Reads the next logical line into `line`, and answers the physical line of its newline; or answers
+    // how the lines end, and leaves `line` empty.
+    pub fn next_line(&mut self, line: &mut Line) -> Result<u32, Ending>
         ensures answer { result ≡ line_head (lines_left B.Source.rest self.old) }
         ensures bytes { held line.new ≡ line_bytes (lines_left B.Source.rest self.old) }
         ensures after { lines_left B.Source.rest self.new ≡ line_tail (lines_left B.Source.rest self.old) }
     {
         line.clear();
-        if let Some(fault) = self.stopped {
-            return NextLine::End(Ending::Fails(fault));
+        let newline = self.fill(line);
+        if newline.is_err() {
+            line.clear();
         }
-        let mut first = 0;
+        newline
+    }
+
+    // Reads the next logical line into a line that is empty, and leaves bytes in it where the lines end.
+    fn fill(&mut self, line: &mut Line) -> Result<u32, Ending>
+        requires { held line.old ≡ [] }
+        ensures answer { result ≡ line_head (lines_left B.Source.rest self.old) }
+        ensures bytes { OnOk result (held line.new ≡ line_bytes (lines_left B.Source.rest self.old)) }
+        ensures after { lines_left B.Source.rest self.new ≡ line_tail (lines_left B.Source.rest self.old) }
+    {
+        if let Some(fault) = self.stopped {
+            return Err(fault.into());
+        }
         loop {
-            let placed = match self.layers.take() {
-                Taken::Byte(placed) => placed,
-                Taken::End(ending) => {
-                    line.clear();
-                    return NextLine::End(ending);
-                }
-            };
+            let placed = self.layers.take()?;
             if placed.byte == b'\n' {
-                return NextLine::Newline(placed.line);
+                return Ok(placed.line);
             }
-            first = line.first_line(first, placed);
-            if !line.push(placed) {
-                line.clear();
-                return self.stop(Fault {
-                    kind: FaultKind::LongLine,
-                    line: first,
-                });
+            if line.push(placed).is_err() {
+                return Err(self.stop(FaultKind::LongLine.at(line.lines()[0])));
             }
         }
     }
 
     // From here on there is only the fault.
-    fn stop(&mut self, fault: Fault) -> NextLine
-        ensures answer { result ≡ End (Fails fault) }
+    fn stop(&mut self, fault: Fault) -> Ending
+        ensures answer { result ≡ Fails fault }
         ensures after { lines_left B.Source.rest self.new ≡ only (Fails fault) }
     {
         self.stopped = Some(fault);
-        NextLine::End(Ending::Fails(fault))
+        fault.into()
     }
 }
 
@@ -112,37 +107,20 @@ impl<'a, S: Shelf> Reader<FileSource<'a, S>> {
     pub fn put_down(self) -> Pending
         ensures { pending_lines (S.Shelf.files (shelf_read self.entry)) result ≡ lines_left (file_left S.Shelf.files) self.entry }
     {
-        let Reader { layers, stopped } = self;
-        let Comments {
-            below,
-            pending: comments,
-        } = layers;
-        let Splices { below, unclosed } = below;
-        let Lookahead {
-            below,
-            held: splices,
-        } = below;
-        let Trigraphs { below } = below;
-        let Lookahead {
-            below,
-            held: trigraphs,
-        } = below;
-        let FileSource {
-            shelf: _,
-            file,
-            position,
-        } = below;
-        let layers = Layers {
-            trigraphs,
-            splices,
-            unclosed,
-            comments,
-        };
+        let comments = &self.layers;
+        let splices = &comments.below;
+        let trigraphs = &splices.below.below;
+        let bottom = &trigraphs.below.below;
         Pending {
-            file,
-            position,
-            layers,
-            stopped,
+            file: bottom.file,
+            position: bottom.position,
+            layers: Layers {
+                trigraphs: trigraphs.below.held,
+                splices: splices.below.held,
+                unclosed: splices.unclosed,
+                comments: comments.pending,
+            },
+            stopped: self.stopped,
         }
     }
 
@@ -150,34 +128,32 @@ impl<'a, S: Shelf> Reader<FileSource<'a, S>> {
     pub fn resume(shelf: &'a S, pending: Pending) -> Reader<FileSource<'a, S>>
         ensures { lines_left (file_left S.Shelf.files) result ≡ pending_lines (S.Shelf.files shelf.now) pending }
     {
-        let Pending {
-            file,
-            position,
-            layers,
-            stopped,
-        } = pending;
         let below = FileSource {
             shelf,
-            file,
-            position,
+            file: pending.file,
+            position: pending.position,
         };
-        let below = Lookahead {
-            below,
-            held: layers.trigraphs,
-        };
-        let below = Trigraphs { below };
-        let below = Lookahead {
-            below,
-            held: layers.splices,
+        let held = pending.layers;
+        let below = Trigraphs {
+            below: Lookahead {
+                below,
+                held: held.trigraphs,
+            },
         };
         let below = Splices {
-            below,
-            unclosed: layers.unclosed,
+            below: Lookahead {
+                below,
+                held: held.splices,
+            },
+            unclosed: held.unclosed,
         };
         let layers = Comments {
             below,
-            pending: layers.comments,
+            pending: held.comments,
         };
-        Reader { layers, stopped }
+        Reader {
+            layers,
+            stopped: pending.stopped,
+        }
     }
 }

@@ -1,11 +1,10 @@
 // The splice layer.
 ghost use Rattle.std.specs.Prelude.{◌≡◌};
-ghost use Rattle.source.specs.declared.Taken.TheVariants.{Byte};
 ghost use Rattle.source.specs.Splices.{opening, closed, spliced, spliced_from};
 ghost use Rattle.source.specs.Stream.{ends, head, tail};
 
 use crate::lookahead::Lookahead;
-use crate::{Ending, Source, Taken};
+use crate::{Ending, Source};
 use text::Placed;
 
 // The line of the last byte handed on is kept where that left it open.
@@ -19,11 +18,7 @@ pub(crate) struct Splices<B> {
 fn open_line(placed: Placed) -> Option<u32>
     ensures { result ≡ opening placed }
 {
-    if placed.byte == b'\n' {
-        None
-    } else {
-        Some(placed.line)
-    }
+    (placed.byte != b'\n').then_some(placed.line)
 }
 
 impl<B: Source> Splices<B> {
@@ -36,18 +31,8 @@ impl<B: Source> Splices<B> {
         }
     }
 
-    // Hands a byte on.
-    fn hand(&mut self, placed: Placed) -> Taken
-        ensures answer { result ≡ Byte placed }
-        ensures unclosed { self.new.unclosed ≡ opening placed }
-        ensures below { self.new.below ≡ self.old.below }
-    {
-        self.unclosed = open_line(placed);
-        Taken::Byte(placed)
-    }
-
     // The answer at an ending: first a newline, where the last line is open and the ending is whole.
-    fn end(&mut self, ending: Ending) -> Taken
+    fn end(&mut self, ending: Ending) -> Result<Placed, Ending>
         ensures answer { result ≡ head (closed self.old.unclosed (ends ending)) }
         ensures after { closed self.new.unclosed (ends ending) ≡ tail (closed self.old.unclosed (ends ending)) }
         ensures below { self.new.below ≡ self.old.below }
@@ -55,9 +40,9 @@ impl<B: Source> Splices<B> {
         match (ending, self.unclosed) {
             (Ending::Whole, Some(line)) => {
                 self.unclosed = None;
-                Taken::Byte(Placed { byte: b'\n', line })
+                Ok(Placed { byte: b'\n', line })
             }
-            _ => Taken::End(ending),
+            _ => Err(ending),
         }
     }
 }
@@ -65,21 +50,15 @@ impl<B: Source> Splices<B> {
 impl<B: Source> Source for Splices<B> {
     ghost rest = { λ s. spliced_from s.below.held s.unclosed (B.Source.rest s.below.below) };
 
-    fn take(&mut self) -> Taken {
+    fn take(&mut self) -> Result<Placed, Ending> {
         loop {
             let first = match self.below.next() {
-                Taken::Byte(first) => first,
-                Taken::End(ending) => return self.end(ending),
+                Ok(first) => first,
+                Err(ending) => return self.end(ending),
             };
-            if first.byte != b'\\' {
-                return self.hand(first);
-            }
-            let Taken::Byte(second) = self.below.next() else {
-                return self.hand(first);
-            };
-            if second.byte != b'\n' {
-                self.below.put_back(second);
-                return self.hand(first);
+            if first.byte != b'\\' || !self.below.skip(b'\n') {
+                self.unclosed = open_line(first);
+                return Ok(first);
             }
         }
     }

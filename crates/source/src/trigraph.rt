@@ -1,12 +1,12 @@
 // The trigraph layer.
-ghost use Rattle.std.specs.Prelude.{◌≡◌};
+ghost use Rattle.std.specs.Prelude.{◌≡◌, Ok};
 ghost use Rattle.source.specs.declared.lookahead.Held.TheVariants.{Nothing};
 ghost use Rattle.source.specs.Lookahead.{popped, ahead_left};
 ghost use Rattle.source.specs.Stream.{◌▸◌, head, tail};
 ghost use Rattle.source.specs.Trigraphs.{replacement, trigraph, trigraphs, trigraphs_from};
 
 use crate::lookahead::Lookahead;
-use crate::{Source, Taken};
+use crate::{Ending, Source};
 use text::Placed;
 
 #[derive(Drop)]
@@ -51,27 +51,24 @@ impl<B: Source> Trigraphs<B> {
         }
     }
 
-    // The answer behind a first byte that may begin a trigraph.
-    fn take_behind(&mut self, first: Placed) -> Taken
+    // What is handed on where `first` is taken: the byte for the trigraph that it begins, or itself.
+    fn take_behind(&mut self, first: Placed) -> Placed
         requires { popped self.old.below.held ≡ Nothing }
-        ensures answer { result ≡ head (trigraphs (first ▸ ahead_left B.Source.rest self.old.below)) }
+        ensures answer { Ok result ≡ head (trigraphs (first ▸ ahead_left B.Source.rest self.old.below)) }
         ensures after { trigraphs (ahead_left B.Source.rest self.new.below) ≡ tail (trigraphs (first ▸ ahead_left B.Source.rest self.old.below)) }
     {
-        let Taken::Byte(second) = self.below.next() else {
-            return Taken::Byte(first);
+        let Ok(second) = self.below.next() else {
+            return first;
         };
-        let Taken::Byte(third) = self.below.next() else {
+        let Ok(third) = self.below.next() else {
             self.below.put_back(second);
-            return Taken::Byte(first);
+            return first;
         };
         match trigraph_in(first.byte, second.byte, third.byte) {
-            Some(byte) => Taken::Byte(Placed {
-                byte,
-                line: first.line,
-            }),
+            Some(byte) => Placed { byte, ..first },
             None => {
                 self.below.put_back_two(second, third);
-                Taken::Byte(first)
+                first
             }
         }
     }
@@ -80,15 +77,12 @@ impl<B: Source> Trigraphs<B> {
 impl<B: Source> Source for Trigraphs<B> {
     ghost rest = { λ s. trigraphs_from s.below.held (B.Source.rest s.below.below) };
 
-    fn take(&mut self) -> Taken {
-        let first = match self.below.next() {
-            Taken::Byte(first) => first,
-            Taken::End(ending) => return Taken::End(ending),
-        };
+    fn take(&mut self) -> Result<Placed, Ending> {
+        let first = self.below.next()?;
         if first.byte == b'?' {
-            self.take_behind(first)
+            Ok(self.take_behind(first))
         } else {
-            Taken::Byte(first)
+            Ok(first)
         }
     }
 }

@@ -20,11 +20,11 @@ use Rattle.replacement.specs.Items as items
 use Rattle.replacement.specs.Items.{Item, End as Ends, whole, fault, Outcome, over, with, shared}
 use Rattle.replacement.specs.Meaning.{hidden, item_of, items_of, end_of}
 use Rattle.replacement.specs.Replacing.{Expander, Move, halt, before, counting, result, arguments, gathered, called}
-use Rattle.invocation.specs.declared.bracket.Gathered.TheVariants.{Closed, Open}
+use Rattle.invocation.specs.declared.bracket.GatherError.TheVariants.{Open}
 use Rattle.invocation.specs.Calls.{Gathering}
 use Rattle.invocation.specs.Fronts.{Dropped}
 use Rattle.invocation.proofs.Waiting.{dropped_more}
-use Rattle.steps.specs.declared.class.Name.{Name}
+use Rattle.item.specs.declared.Name.{Name}
 use Rattle.steps.specs.declared.prepared.Call.{Call}
 use Rattle.steps.specs.declared.prepared.Prepared.{Prepared}
 use Rattle.steps.specs.declared.prepared.Prepared.TheVariants.{End, Hand, Replace}
@@ -89,13 +89,13 @@ open_fault_lem (Fails f) line left = refl
 
 -- from the state behind the `(`, with what has been gathered
 module _ (ms : List Macro) (end : Ending) (k : ℕ) (n : Name) (left : ℕ) (w run w₁ run₁ within : List (Tagged HideSet)) (fits : fit within ≡ true) (gone : Dropped (length within) w run w₁ run₁) where
-  pub calling_open : (args : List (List Item)) (f : Fault) → Gathering ms (w ++ run) Open within → f ≡ open_fault end n.line → Calling ms (end_of end) k n (record { left = left; w = w; run = run }) (record { left = left; w = w₁; run = run₁ }) args (Err f)
+  pub calling_open : (args : List (List Item)) (f : Fault) → Gathering ms (w ++ run) (Err Open) within → f ≡ open_fault end n.line → Calling ms (end_of end) k n (record { left = left; w = w; run = run }) (record { left = left; w = w₁; run = run₁ }) args (Err f)
   calling_open args f g is x m ps w₀ run₀ named opened e =
       let all = gathered 0 (items_of ms (w ++ run)) in
       (λ j. called_by e m ps (item_of ms x) (items_of ms w₀) (items_of ms run₀) (end_of end) left (suc (suc (length all.inside))) ((ap over g.0 ∙ not_over ms within fits) j) (g.1 j) (arguments ps all.inside)) ∙ ap (λ v. elim (end_of end) [ whole ↦ halt 51 v.line left | fault a b ↦ halt a b left ]) (sym named.name) ∙ open_fault_lem end n.line left ∙ ap (λ d. halt (fault_number d.kind) d.line left) (sym is)
 
   -- up to the `)`, which is taken away too
-  module _ (h : HideSet) (closed : Gathering ms (w ++ run) (Closed h) within) (w₂ run₂ : List (Tagged HideSet)) (last : Dropped 1 w₁ run₁ w₂ run₂) where
+  module _ (h : HideSet) (closed : Gathering ms (w ++ run) (Ok h) within) (w₂ run₂ : List (Tagged HideSet)) (last : Dropped 1 w₁ run₁ w₂ run₂) where
     module _ (x : Tagged HideSet) (m : Macro) (ps : List (List ℕ)) (w₀ run₀ : List (Tagged HideSet)) (named : Named ms x k n m (Some ps)) (i : Item) (close : (gathered 0 (items_of ms (w ++ run))).close ≡ Some i) where
       called-closed : (a : Option (List (List Item))) → arguments_of (slice_get ms k) (items_of ms within) ≡ a → (e : Expander) → called e m ps (item_of ms x) (items_of ms w₀) (items_of ms run₀) (end_of end) left (gathered 0 (items_of ms (w ++ run))) ≡ called_by e m ps (item_of ms x) (items_of ms w₀) (items_of ms run₀) (end_of end) left (suc (suc (length within))) false (Some i) a
       called-closed a parts e =
@@ -116,21 +116,21 @@ module _ (ms : List Macro) (end : Ending) (k : ℕ) (n : Name) (left : ℕ) (w r
         run_left =
             ap (λ j. drop (suc (suc (length within)) - j) (items_of ms run₀)) (length-map w₀ (item_of ms)) ∙ drop-map (item_of ms) _ run₀ ∙ ap (items_of ms) (sym all_gone.then)
 
-        leading_closed : (args : List (List Item)) (c : Call) (left₁ : ℕ) (r : Result Prepared Fault) (hides : HideSet) → arguments_of (slice_get ms k) (items_of ms within) ≡ Some args → i.hides ≡ hidden ms h → k < 256 → ((j : ℕ) → in_set hides j ≡ (in_set n.hides j && in_set h j)) → c ≡ record { slot = k; line = n.line; marked = n.marked; hides = c.hides } → ((j : ℕ) → in_set c.hides j ≡ ((eqb j k && ltb k 256) || in_set hides j)) → r ≡ cond (eqb left 0) (Err (fault_at ManyReplacements n.line)) (Ok (Replace c)) → left₁ ≡ left - 1 → Leading ms (λ e. called e m ps (item_of ms x) (items_of ms w₀) (items_of ms run₀) (end_of end) left (gathered 0 (items_of ms (w ++ run)))) (record { left = left₁; w = w₂; run = run₂ }) args r
+        leading_closed : (args : List (List Item)) (c : Call) (left₁ : ℕ) (r : Result Prepared Fault) (hides : HideSet) → arguments_of (slice_get ms k) (items_of ms within) ≡ Some args → i.hides ≡ hidden ms h → k < 256 → ((j : ℕ) → in_set hides j ≡ (in_set n.hides j && in_set h j)) → c ≡ record { slot = k; name = record { line = n.line; marked = n.marked; hides = c.name.hides } } → ((j : ℕ) → in_set c.name.hides j ≡ ((eqb j k && ltb k 256) || in_set hides j)) → r ≡ cond (eqb left 0) (Err (fault_at ManyReplacements n.line)) (Ok (Replace c)) → left₁ ≡ left - 1 → Leading ms (λ e. called e m ps (item_of ms x) (items_of ms w₀) (items_of ms run₀) (end_of end) left (gathered 0 (items_of ms (w ++ run)))) (record { left = left₁; w = w₂; run = run₂ }) args r
         leading_closed args c left₁ r hides parts by within-slots f place g answer less =
             let t = item_of ms x in
             let line = x.token.line in
             let own : (j : ℕ) → in_set hides j ≡ (in_set x.tag j && in_set h j) = λ j. f j ∙ ap (λ v. in_set v.hides j && in_set h j) named.name in
-            let set = ap (λ q. with (shared (hidden ms x.tag) q) x.token.spelling) by ∙ ap (λ q. with q x.token.spelling) (shared-hidden ms x.tag h hides own) ∙ with_hidden ms x.token.spelling k m named.slot named.definition hides c.hides g within-slots in
+            let set = ap (λ q. with (shared (hidden ms x.tag) q) x.token.spelling) by ∙ ap (λ q. with q x.token.spelling) (shared-hidden ms x.tag h hides own) ∙ with_hidden ms x.token.spelling k m named.slot named.definition hides c.name.hides g within-slots in
             let results : Expander → ℕ → Outcome Item = λ e j. result e t (Some ps) args (with (shared (hidden ms x.tag) i.hides) x.token.spelling) m.list j in
-            leading_same ms _ (λ e. counting line left (λ j. before line (items_of ms w₂) (items_of ms run₂) (results e j))) _ args r (λ e. called-closed (Some args) parts e ∙ (λ d. counting line left (λ j. before line (waiting_left d) (run_left d) (results e j)))) (leading_counted ms args left left₁ line c r w₂ run₂ results (answer ∙ ap (λ v. cond (eqb left 0) (Err (fault_at ManyReplacements v.line)) (Ok (Replace c))) named.name) less (sym (ap (λ d. d.line) place ∙ ap (λ v. v.line) named.name)) (λ e j. result_is e ms x k n m (Some ps) args args _ j c named place refl set))
+            leading_same ms _ (λ e. counting line left (λ j. before line (items_of ms w₂) (items_of ms run₂) (results e j))) _ args r (λ e. called-closed (Some args) parts e ∙ (λ d. counting line left (λ j. before line (waiting_left d) (run_left d) (results e j)))) (leading_counted ms args left left₁ line c r w₂ run₂ results (answer ∙ ap (λ v. cond (eqb left 0) (Err (fault_at ManyReplacements v.line)) (Ok (Replace c))) named.name) less (sym (ap (λ d. d.name.line) place ∙ ap (λ v. v.line) named.name)) (λ e j. result_is e ms x k n m (Some ps) args args _ j c named place refl set))
 
     pub calling_count : (args : List (List Item)) (f : Fault) → arguments_of (slice_get ms k) (items_of ms within) ≡ None → f ≡ fault_at ArgumentCount n.line → Calling ms (end_of end) k n (record { left = left; w = w; run = run }) (record { left = left; w = w₂; run = run₂ }) args (Err f)
     calling_count args f parts is x m ps w₀ run₀ named opened e =
         let close = some_hides (gathered 0 (items_of ms (w ++ run))).close (hidden ms h) closed.1 in
         called-closed x m ps w₀ run₀ named close.0 close.1 None parts e ∙ ap (λ v. halt 52 v.line left) (sym named.name) ∙ ap (λ d. halt (fault_number d.kind) d.line left) (sym is)
 
-    pub calling_closed : (args : List (List Item)) (c : Call) (left₁ : ℕ) (r : Result Prepared Fault) (hides : HideSet) → arguments_of (slice_get ms k) (items_of ms within) ≡ Some args → ((v : List ℕ) → slot v ms ≡ Some k → k < 256) → ((j : ℕ) → in_set hides j ≡ (in_set n.hides j && in_set h j)) → c ≡ record { slot = k; line = n.line; marked = n.marked; hides = c.hides } → ((j : ℕ) → in_set c.hides j ≡ ((eqb j k && ltb k 256) || in_set hides j)) → r ≡ cond (eqb left 0) (Err (fault_at ManyReplacements n.line)) (Ok (Replace c)) → left₁ ≡ left - 1 → Calling ms (end_of end) k n (record { left = left; w = w; run = run }) (record { left = left₁; w = w₂; run = run₂ }) args r
+    pub calling_closed : (args : List (List Item)) (c : Call) (left₁ : ℕ) (r : Result Prepared Fault) (hides : HideSet) → arguments_of (slice_get ms k) (items_of ms within) ≡ Some args → ((v : List ℕ) → slot v ms ≡ Some k → k < 256) → ((j : ℕ) → in_set hides j ≡ (in_set n.hides j && in_set h j)) → c ≡ record { slot = k; name = record { line = n.line; marked = n.marked; hides = c.name.hides } } → ((j : ℕ) → in_set c.name.hides j ≡ ((eqb j k && ltb k 256) || in_set hides j)) → r ≡ cond (eqb left 0) (Err (fault_at ManyReplacements n.line)) (Ok (Replace c)) → left₁ ≡ left - 1 → Calling ms (end_of end) k n (record { left = left; w = w; run = run }) (record { left = left₁; w = w₂; run = run₂ }) args r
     calling_closed args c left₁ r hides parts slots f place g answer less x m ps w₀ run₀ named opened =
         let close = some_hides (gathered 0 (items_of ms (w ++ run))).close (hidden ms h) closed.1 in
         leading_closed x m ps w₀ run₀ named close.0 close.1 opened args c left₁ r hides parts close.2 (slots x.token.spelling named.slot) f place g answer less

@@ -1,39 +1,25 @@
--- The digits of a number, written from the last to the first. Assumes nothing.
-use Rattle.std.proofs.Common.{◌≡◌, ℕ, zero, suc, ◌+◌, ◌-◌, ◌/◌, ◌%◌, ◌<◌, ◌≤◌, cond, ltb, List, [], ◌∷◌, ◌++◌, length, take, drop, set, sym, refl, ap, ◌∙◌, arith}
-use Rattle.std.proofs.lemmas.List.{take_all, length-drop}
+-- The digits of a line. Assumes nothing.
+use Rattle.std.proofs.Common.{◌≡◌, ℕ, zero, suc, ◌+◌, ◌/◌, ◌%◌, ◌^◌, ◌<◌, ◌≤◌, ltb, List, [], ◌∷◌, ◌++◌, decimal, sym, ap, ◌∙◌, append_assoc, append-nil, arith}
 use Rattle.std.proofs.lemmas.Bool.{cond-true, cond-false, lt-ltb, le-ltb}
+use Rattle.std.proofs.lemmas.Fmt.{decimal_by_steps}
 use Rattle.replacement.specs.Replacing.{digits}
 
-drop-set : (xs : List ℕ) (i x : ℕ) → i < length xs → drop i (set xs i x) ≡ x ∷ drop (suc i) xs
-drop-set [] i x h = absurd (omega arith)
-drop-set (y ∷ xs) zero x h = refl
-drop-set (y ∷ xs) (suc i) x h = drop-set xs i x (omega arith)
+-- enough steps, and at least one, give the digits in front of others
+abbrev Written : ℕ → List ℕ → Type 0
+Written n ds = (g : ℕ) (more : List ℕ) → 0 < g → n < 10 ^ g → digits g n more ≡ ds ++ more
 
-one-digit : (s n : ℕ) (ds all : List ℕ) → 0 < s → s ≤ length ds → digits s n (drop s ds) ≡ all → let es = drop (s - 1) (set ds (s - 1) (48 + n % 10)) in cond (ltb n 10) es (digits (s - 1) (n / 10) es) ≡ all
-one-digit zero n ds all h l inv = absurd (omega arith)
-one-digit (suc s) n ds all h l inv =
-    let less : suc s - 1 ≡ s = omega arith in
-    ap (λ k. let es = drop k (set ds k (48 + n % 10)) in cond (ltb n 10) es (digits k (n / 10) es)) less ∙ ap (λ es. cond (ltb n 10) es (digits s (n / 10) es)) (drop-set ds s (48 + n % 10) (omega arith)) ∙ inv
+one : (n : ℕ) → n < 10 → Written n ((48 + n) ∷ [])
+one n h zero more some fits = absurd (omega arith)
+one n h (suc g) more some fits =
+    let same : n % 10 ≡ n = omega arith in
+    cond-true (ltb n 10) _ _ (lt-ltb n 10 h) ∙ ap (λ d. (48 + d) ∷ more) same
 
-module _ (s n d : ℕ) (ds es all : List ℕ) (h : 0 < s) (l : s ≤ length ds) (inv : digits s n (drop s ds) ≡ all) (e : d ≡ 48 + n % 10) (f : es ≡ set ds (s - 1) d) where
-  here : cond (ltb n 10) (drop (s - 1) es) (digits (s - 1) (n / 10) (drop (s - 1) es)) ≡ all
-  here =
-      let is : es ≡ set ds (s - 1) (48 + n % 10) = f ∙ ap (set ds (s - 1)) e in
-      ap (λ xs. cond (ltb n 10) (drop (s - 1) xs) (digits (s - 1) (n / 10) (drop (s - 1) xs))) is ∙ one-digit s n ds all h l inv
+further : (n : ℕ) (ds : List ℕ) → 10 ≤ n → Written (n / 10) ds → Written n (ds ++ (48 + n % 10) ∷ [])
+further n ds h rest zero more some fits = absurd (omega arith)
+further n ds h rest (suc zero) more some fits = absurd (omega arith)
+further n ds h rest (suc (suc g)) more some fits =
+    let less : n / 10 < 10 ^ suc g = omega arith in
+    cond-false (ltb n 10) _ _ (le-ltb n 10 h) ∙ rest (suc g) ((48 + n % 10) ∷ more) (omega arith) less ∙ sym (append_assoc ds ((48 + n % 10) ∷ []) more)
 
-  -- more digits, or no more
-  pub digits_more : (n / 10 ≡ 0 → ⊥) → digits (s - 1) (n / 10) (drop (s - 1) es) ≡ all
-  digits_more more = sym (cond-false _ _ _ (le-ltb n 10 (omega arith))) ∙ here
-
-  pub digits_last : n / 10 ≡ 0 → drop (s - 1) es ≡ all
-  digits_last none = sym (cond-true _ _ _ (lt-ltb n 10 (omega arith))) ∙ here
-
--- as many as there may be
-pub digits_all : (s n : ℕ) (ds all : List ℕ) → s ≡ 0 → digits s n (drop s ds) ≡ all → drop s ds ≡ all
-digits_all zero n ds all e inv = inv
-digits_all (suc s) n ds all e inv = absurd (omega arith)
-
--- the part of ten bytes that holds them, behind what was written before
-pub digits-part : (before ds all : List ℕ) (s k : ℕ) → before ≡ [] → length ds ≡ k → drop s ds ≡ all → before ++ take (k - s) (drop s ds) ≡ all
-digits-part before ds all s k e f is =
-    ap (λ xs. xs ++ take (k - s) (drop s ds)) e ∙ take_all (k - s) (drop s ds) (omega (arith, length-drop s ds)) ∙ is
+pub digits-decimal : (n : ℕ) → n < 2 ^ 32 → digits 10 n [] ≡ decimal n
+digits-decimal n small = decimal_by_steps Written one further n (omega arith) 10 [] (omega arith) (omega arith) ∙ append-nil (decimal n)

@@ -12,7 +12,7 @@ use Rattle.replacement.specs.Items.{Item, End as Ends, whole, fault, Outcome, ov
 use Rattle.replacement.specs.Meaning.{hidden, item_of, items_of}
 use Rattle.replacement.specs.Replacing.{Expander, Turn, Move, go, halt, before, counting, result}
 use Rattle.invocation.specs.Fronts.{Dropped}
-use Rattle.steps.specs.declared.class.Name.{Name}
+use Rattle.item.specs.declared.Name.{Name}
 use Rattle.steps.specs.declared.prepared.Call.{Call}
 use Rattle.steps.specs.declared.prepared.Prepared.{Prepared}
 use Rattle.steps.specs.declared.prepared.Prepared.TheVariants.{End, Hand, Replace}
@@ -21,10 +21,10 @@ use Rattle.steps.specs.Steps.{State, onward, arguments_for, result_for, result_o
 use Rattle.steps.proofs.Stepping.{led}
 
 -- the result of a macro, by its slot
-pub result_is : (e : Expander) (ms : List Macro) (x : Tagged HideSet) (k : ℕ) (n : Name) (m : Macro) (ps : Option (List (List ℕ))) (given args : List (List Item)) (h : List ℕ → Bool) (left : ℕ) (c : Call) → Named ms x k n m ps → c ≡ record { slot = k; line = n.line; marked = n.marked; hides = c.hides } → args ≡ arguments_for ps given → h ≡ hidden ms c.hides → result e (item_of ms x) ps args h m.list left ≡ result_of e ms given c left
+pub result_is : (e : Expander) (ms : List Macro) (x : Tagged HideSet) (k : ℕ) (n : Name) (m : Macro) (ps : Option (List (List ℕ))) (given args : List (List Item)) (h : List ℕ → Bool) (left : ℕ) (c : Call) → Named ms x k n m ps → c ≡ record { slot = k; name = record { line = n.line; marked = n.marked; hides = c.name.hides } } → args ≡ arguments_for ps given → h ≡ hidden ms c.name.hides → result e (item_of ms x) ps args h m.list left ≡ result_of e ms given c left
 result_is e ms x k n m ps given args h left c named place a f =
-    let line : x.token.line ≡ c.line = sym (ap (λ d. d.line) place ∙ ap (λ v. v.line) named.name) in
-    let mark : x.token.marked ≡ c.marked = sym (ap (λ d. d.marked) place ∙ ap (λ v. v.marked) named.name) in
+    let line : x.token.line ≡ c.name.line = sym (ap (λ d. d.name.line) place ∙ ap (λ v. v.line) named.name) in
+    let mark : x.token.marked ≡ c.name.marked = sym (ap (λ d. d.name.marked) place ∙ ap (λ v. v.marked) named.name) in
     let here : slice_get ms c.slot ≡ Some m = ap (λ d. slice_get ms d.slot) place ∙ named.definition in
     let own = sym named.parameters in
     (λ j. result e (record { token = record { kind = Identifier; spelling = []; line = line j; marked = mark j }; hides = λ v. false }) (own j) ((a ∙ ap (λ p. arguments_for p given) own) j) (f j) m.list left) ∙ ap (result_for e ms given c left) (sym here)
@@ -44,7 +44,7 @@ module _ (ms : List Macro) (file : List ℕ) (end : Ends) (s t : State) (args : 
   leading_prepared (Ok End) move w run f a = absurd a
   leading_prepared (Ok (Hand h)) move w run f a = absurd a
   leading_prepared (Ok (Replace c)) move w run f a =
-      λ e next. let o = result_of e ms args c t.left in f e next ∙ ap (led e next ms file end w run) (a e) ∙ led_chosen e next ms file end w run c.line (o.items ++ items_of ms t.w) (items_of ms t.run) o.left o.ending (over (o.items ++ items_of ms t.w))
+      λ e next. let o = result_of e ms args c t.left in f e next ∙ ap (led e next ms file end w run) (a e) ∙ led_chosen e next ms file end w run c.name.line (o.items ++ items_of ms t.w) (items_of ms t.run) o.left o.ending (over (o.items ++ items_of ms t.w))
   leading_prepared (Err f) move w run g a =
       λ e next. let is = g e next ∙ ap (led e next ms file end w run) (a e) in (ap (λ o. o.items) is, ap (λ o. o.ending) is)
 
@@ -56,7 +56,7 @@ counted_cases (suc n) left' line p r P answer less none some =
     let is = answer ∙ cond-false _ (Err (fault_at ManyReplacements line)) (Ok p) (ne_eqb (suc n) 0 (λ z. omega arith)) in
     subst (λ k. P k r) count (subst (P (suc left')) (sym is) some)
 
-pub leading_counted : (ms : List Macro) (args : List (List Item)) (left left' line : ℕ) (c : Call) (r : Result Prepared Fault) (w run : List (Tagged HideSet)) (results : Expander → ℕ → Outcome Item) → r ≡ cond (eqb left 0) (Err (fault_at ManyReplacements line)) (Ok (Replace c)) → left' ≡ left - 1 → line ≡ c.line → ((e : Expander) (j : ℕ) → results e j ≡ result_of e ms args c j) → Leading ms (λ e. counting line left (λ j. before line (items_of ms w) (items_of ms run) (results e j))) (record { left = left'; w = w; run = run }) args r
+pub leading_counted : (ms : List Macro) (args : List (List Item)) (left left' line : ℕ) (c : Call) (r : Result Prepared Fault) (w run : List (Tagged HideSet)) (results : Expander → ℕ → Outcome Item) → r ≡ cond (eqb left 0) (Err (fault_at ManyReplacements line)) (Ok (Replace c)) → left' ≡ left - 1 → line ≡ c.name.line → ((e : Expander) (j : ℕ) → results e j ≡ result_of e ms args c j) → Leading ms (λ e. counting line left (λ j. before line (items_of ms w) (items_of ms run) (results e j))) (record { left = left'; w = w; run = run }) args r
 leading_counted ms args left left' line c r w run results answer less l f =
     counted_cases left left' line (Replace c) r (λ n q. Leading ms (λ e. counting line n (λ j. before line (items_of ms w) (items_of ms run) (results e j))) (record { left = left'; w = w; run = run }) args q) answer less (λ z e. ap (halt 65 line) (sym z)) (λ e. (λ j. before (l j) (items_of ms w) (items_of ms run) (f e left' j)))
 

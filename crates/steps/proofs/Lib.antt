@@ -1,7 +1,6 @@
 pub mod Called
 pub mod Digits
 pub mod Hiding
-pub mod Indexed
 pub mod Leading
 pub mod Preparing
 pub mod Pushed

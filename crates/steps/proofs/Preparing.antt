@@ -18,7 +18,7 @@ use Rattle.invocation.specs.Fronts.{Dropped, bracket}
 use Rattle.invocation.proofs.Lists.{take_first}
 use Rattle.invocation.proofs.Waiting.{dropped_left}
 use Rattle.steps.specs.declared.class.BuiltIn.{BuiltIn as BuiltInName}
-use Rattle.steps.specs.declared.class.Name.{Name as NameAt}
+use Rattle.item.specs.declared.Name.{Name as NameAt}
 use Rattle.steps.specs.declared.prepared.Call.{Call}
 use Rattle.steps.specs.declared.prepared.Handed.TheVariants.{Front, Name, BuiltIn}
 use Rattle.steps.specs.declared.prepared.Prepared.{Prepared}
@@ -107,17 +107,17 @@ module _ (ms : List Macro) (file : List ℕ) (end : Ends) (args : List (List Ite
 
     -- an object-like macro
     module _ (k : ℕ) (n : NameAt) (front : Naming ms file end (w ++ run) k n false) (c : Call) (left₁ : ℕ) (r : Result Prepared Fault) (answer : r ≡ cond (eqb left 0) (Err (fault_at ManyReplacements n.line)) (Ok (Replace c))) (less : left₁ ≡ left - 1) where
-      pub prepared_object : k < 256 → c ≡ record { slot = k; line = n.line; marked = n.marked; hides = c.hides } → ((j : ℕ) → in_set c.hides j ≡ ((eqb j k && ltb k 256) || in_set n.hides j)) → Preparing ms file end (record { left = left; w = w; run = run }) (record { left = left₁; w = w₁; run = run₁ }) args r
+      pub prepared_object : k < 256 → c ≡ record { slot = k; name = record { line = n.line; marked = n.marked; hides = c.name.hides } } → ((j : ℕ) → in_set c.name.hides j ≡ ((eqb j k && ltb k 256) || in_set n.hides j)) → Preparing ms file end (record { left = left; w = w; run = run }) (record { left = left₁; w = w₁; run = run₁ }) args r
       prepared_object within place hides =
           let x = front.x in
           let m = front.m in
           let named = front.named in
           let t = item_of ms x in
           let line = x.token.line in
-          let more : (j : ℕ) → in_set c.hides j ≡ ((eqb j k && ltb k 256) || in_set x.tag j) = λ j. hides j ∙ ap (λ v. (eqb j k && ltb k 256) || in_set v.hides j) named.name in
-          let set = with_hidden ms x.token.spelling k m named.slot named.definition x.tag c.hides more within in
+          let more : (j : ℕ) → in_set c.name.hides j ≡ ((eqb j k && ltb k 256) || in_set x.tag j) = λ j. hides j ∙ ap (λ v. (eqb j k && ltb k 256) || in_set v.hides j) named.name in
+          let set = with_hidden ms x.token.spelling k m named.slot named.definition x.tag c.name.hides more within in
           let results : Expander → ℕ → Outcome Item = λ e j. result e t None [] (with (hidden ms x.tag) x.token.spelling) m.list j in
-          leading_prepared ms file end (record { left = left; w = w; run = run }) (record { left = left₁; w = w₁; run = run₁ }) args r (λ e. counting line left (λ j. before line (items_of ms w₁) (items_of ms run₁) (results e j))) w₁ run₁ (λ e next. onward_first e next ms file end left x w run w₁ run₁ front.first dropped ∙ ap (led e next ms file end w₁ run₁) (front.steps e (items_of ms w₁) (items_of ms run₁) left ∙ ap (replaced_by e t (items_of ms w₁) (items_of ms run₁) end left m) named.parameters)) (leading_counted ms args left left₁ line c r w₁ run₁ results (answer ∙ ap (λ v. cond (eqb left 0) (Err (fault_at ManyReplacements v.line)) (Ok (Replace c))) named.name) less (sym (ap (λ d. d.line) place ∙ ap (λ v. v.line) named.name)) (λ e j. result_is e ms x k n m None args [] _ j c named place (λ i. []) set))
+          leading_prepared ms file end (record { left = left; w = w; run = run }) (record { left = left₁; w = w₁; run = run₁ }) args r (λ e. counting line left (λ j. before line (items_of ms w₁) (items_of ms run₁) (results e j))) w₁ run₁ (λ e next. onward_first e next ms file end left x w run w₁ run₁ front.first dropped ∙ ap (led e next ms file end w₁ run₁) (front.steps e (items_of ms w₁) (items_of ms run₁) left ∙ ap (replaced_by e t (items_of ms w₁) (items_of ms run₁) end left m) named.parameters)) (leading_counted ms args left left₁ line c r w₁ run₁ results (answer ∙ ap (λ v. cond (eqb left 0) (Err (fault_at ManyReplacements v.line)) (Ok (Replace c))) named.name) less (sym (ap (λ d. d.name.line) place ∙ ap (λ v. v.line) named.name)) (λ e j. result_is e ms x k n m None args [] _ j c named place (λ i. []) set))
 
       pub falling_object : Falling (record { left = left; w = w; run = run }) (record { left = left₁; w = w₁; run = run₁ }) r
       falling_object = falling_counted left w run w₁ run₁ 1 dropped c n.line left₁ r answer less

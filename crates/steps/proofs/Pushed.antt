@@ -18,7 +18,7 @@ use Rattle.invocation.specs.Fronts.{Dropped}
 use Rattle.invocation.proofs.Held.{fits}
 use Rattle.invocation.proofs.Waiting.{dropped_none}
 use Rattle.steps.specs.declared.class.BuiltIn.{BuiltIn as BuiltInName}
-use Rattle.steps.specs.declared.class.Name.{Name as NameAt}
+use Rattle.item.specs.declared.Name.{Name as NameAt}
 use Rattle.steps.specs.declared.prepared.Handed.{Handed}
 use Rattle.steps.specs.declared.prepared.Handed.TheVariants.{Front, Name, BuiltIn}
 use Rattle.steps.specs.Handing.{built_in_kind, built_in_spelling, placed_at, in_place, named_items, handed_items, taken, Onto}

@@ -18,7 +18,7 @@ use Rattle.steps.specs.declared.class.BuiltIn.{BuiltIn as BuiltInName}
 use Rattle.steps.specs.declared.class.BuiltIn.TheVariants.{Line, File, Standard, Version}
 use Rattle.steps.specs.declared.class.Class.{Class}
 use Rattle.steps.specs.declared.class.Class.TheVariants.{End, Plain, BuiltIn, Object, Function}
-use Rattle.steps.specs.declared.class.Name.{Name}
+use Rattle.item.specs.declared.Name.{Name}
 use Rattle.steps.specs.Calling.{Named}
 use Rattle.steps.specs.Classes.{built_in_name, name_of, macro_class, defined_class, named_class, class}
 use Rattle.steps.specs.Handing.{built_in_kind, built_in_spelling, in_place}

@@ -18,7 +18,7 @@ use Rattle.replacement.specs.Replacing.{Expander, Move, halt, before, arguments,
 use Rattle.invocation.specs.declared.bracket.Bracket.{Bracket}
 use Rattle.invocation.specs.declared.bracket.Bracket.TheVariants as bracket
 use Rattle.invocation.specs.Fronts.{Dropped}
-use Rattle.steps.specs.declared.class.Name.{Name}
+use Rattle.item.specs.declared.Name.{Name}
 use Rattle.steps.specs.declared.prepared.Prepared.{Prepared}
 use Rattle.steps.specs.declared.prepared.Prepared.TheVariants.{End, Hand, Replace}
 use Rattle.steps.specs.Classes.{name_of}
@@ -56,7 +56,7 @@ abbrev pub Leading : List Macro → (Expander → Move) → State → List (List
 Leading ms move t args (Ok End) = ⊥
 Leading ms move t args (Ok (Hand h)) = ⊥
 Leading ms move t args (Ok (Replace c)) =
-    (e : Expander) → move e ≡ before c.line (items_of ms t.w) (items_of ms t.run) (result_of e ms args c t.left)
+    (e : Expander) → move e ≡ before c.name.line (items_of ms t.w) (items_of ms t.run) (result_of e ms args c t.left)
 Leading ms move t args (Err f) = (e : Expander) → move e ≡ halt (fault_number f.kind) f.line t.left
 
 -- a call, from the state behind its `(`

@@ -11,7 +11,7 @@ use Rattle.steps.specs.declared.class.BuiltIn.{BuiltIn as BuiltInName}
 use Rattle.steps.specs.declared.class.BuiltIn.TheVariants.{Line, File, Standard, Version}
 use Rattle.steps.specs.declared.class.Class.{Class}
 use Rattle.steps.specs.declared.class.Class.TheVariants.{End, Plain, BuiltIn, Object, Function}
-use Rattle.steps.specs.declared.class.Name.{Name}
+use Rattle.item.specs.declared.Name.{Name}
 
 -- the four built-in names
 abbrev pub built_in_name : List ℕ → Option BuiltInName

@@ -11,7 +11,7 @@ use Rattle.replacement.specs.Meaning.{item_of, items_of}
 use Rattle.replacement.specs.Replacing.{digits}
 use Rattle.steps.specs.declared.class.BuiltIn.{BuiltIn as BuiltInName}
 use Rattle.steps.specs.declared.class.BuiltIn.TheVariants.{Line, File, Standard, Version}
-use Rattle.steps.specs.declared.class.Name.{Name as NameAt}
+use Rattle.item.specs.declared.Name.{Name as NameAt}
 use Rattle.steps.specs.declared.prepared.Handed.{Handed}
 use Rattle.steps.specs.declared.prepared.Handed.TheVariants.{Front, Name, BuiltIn}
 

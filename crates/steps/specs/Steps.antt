@@ -27,7 +27,7 @@ onward e next ms file end s = along (step e ms file end) next end s.left (items_
 
 -- the name that a result stands for, as far as results depend on it
 abbrev pub standing : Call → Item
-standing c = record { token = record { kind = Identifier; spelling = []; line = c.line; marked = c.marked }; hides = λ n. false }
+standing c = record { token = record { kind = Identifier; spelling = []; line = c.name.line; marked = c.name.marked }; hides = λ n. false }
 
 -- an object-like macro has no arguments
 abbrev pub arguments_for : Option (List (List ℕ)) → List (List Item) → List (List Item)
@@ -37,7 +37,7 @@ arguments_for (Some ps) args = args
 -- the result of a macro
 abbrev pub result_for : Expander → List Macro → List (List Item) → Call → ℕ → Option Macro → Outcome Item
 result_for e ms args c left None = giving [] left
-result_for e ms args c left (Some m) = result e (standing c) m.parameters (arguments_for m.parameters args) (hidden ms c.hides) m.list left
+result_for e ms args c left (Some m) = result e (standing c) m.parameters (arguments_for m.parameters args) (hidden ms c.name.hides) m.list left
 
 abbrev pub result_of : Expander → List Macro → List (List Item) → Call → ℕ → Outcome Item
 result_of e ms args c left = result_for e ms args c left (slice_get ms c.slot)
@@ -62,7 +62,7 @@ Preparing ms file end s t args (Ok End) = (s.w ++ s.run ≡ []) × (t.left ≡ s
 Preparing ms file end s t args (Ok (Hand h)) =
     (e : Expander) (next : Turn) → onward e next ms file end s ≡ (giving (handed_items ms file (t.w ++ t.run) h) t.left then (λ n. onward e next ms file end (behind t (taken h) n)))
 Preparing ms file end s t args (Ok (Replace c)) =
-    (e : Expander) (next : Turn) → onward e next ms file end s ≡ moved next (before c.line (items_of ms t.w) (items_of ms t.run) (result_of e ms args c t.left))
+    (e : Expander) (next : Turn) → onward e next ms file end s ≡ moved next (before c.name.line (items_of ms t.w) (items_of ms t.run) (result_of e ms args c t.left))
 Preparing ms file end s t args (Err f) = (e : Expander) (next : Turn) → Failing (onward e next ms file end s) f
 
 -- how much is left behind a step

@@ -1,12 +1,13 @@
 // What built-in names stand for.
-ghost use Rattle.std.specs.Prelude.{◌≡◌, ◌+◌, ◌%◌, ◌≤◌, [], ◌++◌, length};
+ghost use Rattle.std.specs.Prelude.{◌≡◌, ◌+◌, ◌≤◌, [], ◌++◌, length};
 ghost use Rattle.operators.specs.Spellings.{spelt};
-ghost use Rattle.replacement.specs.Replacing.{digits as decimal};
+ghost use Rattle.replacement.specs.Replacing.{digits};
 ghost use Rattle.steps.specs.Contexts.{file_of};
 ghost use Rattle.steps.specs.Handing.{quoted_file, built_in_spelling};
 
 use crate::class::BuiltIn;
 use crate::context::Context;
+use itoa::Buffer;
 use operators::Spelling;
 
 // Makes the spelling that a built-in name stands for on a line.
@@ -44,27 +45,9 @@ fn write_file(context: Context<'_>, spelling: &mut Spelling)
     add(spelling, b"\"");
 }
 
-// A u32 has at most ten digits.
 fn write_digits(number: u32, spelling: &mut Spelling)
     requires { spelt spelling.old ≡ [] }
-    ensures { spelt spelling.new ≡ decimal 10 number [] }
+    ensures { spelt spelling.new ≡ digits 10 number [] }
 {
-    let mut digits = [b'0'; 10];
-    let mut rest = number;
-    let mut start = 10;
-    while start > 0 {
-        start -= 1;
-        digits[start] = digit(rest);
-        rest /= 10;
-        if rest == 0 {
-            break;
-        }
-    }
-    add(spelling, &digits[start..]);
-}
-
-fn digit(number: u32) -> u8
-    ensures { result ≡ 48 + number % 10 }
-{
-    b'0' + (number % 10) as u8
+    add(spelling, Buffer::new().format(number).as_bytes());
 }

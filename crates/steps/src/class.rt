@@ -8,13 +8,13 @@ ghost use Rattle.steps.specs.Classes.{built_in_name, name_of, defined_class, cla
 ghost use Rattle.steps.specs.Contexts.{macros};
 
 use crate::context::Context;
-use invocation::{Run, first_waiting};
-use item::{HideSet, TagRef, TagTable};
+use invocation::{Run, fetch_front, front};
+use item::{HideSet, Name, TagRef, TagTable};
 use text::same_bytes;
 use token::Kind;
 
 // `__LINE__`, `__FILE__`, `__STDC__` and `__STDC_VERSION__`.
-#[derive(Clone, Copy)]
+#[derive(Clone, Copy, PartialEq, Debug)]
 pub enum BuiltIn {
     Line,
     File,
@@ -22,17 +22,9 @@ pub enum BuiltIn {
     Version,
 }
 
-// A name that is replaced: where it stands, its mark and its hide set.
-#[derive(Clone, Copy)]
-pub struct Name {
-    pub line: u32,
-    pub marked: bool,
-    pub hides: HideSet,
-}
-
 // A macro is told by the slot of its definition.
-#[derive(Clone, Copy)]
-pub enum Class {
+#[derive(Clone, Copy, PartialEq, Debug)]
+pub(crate) enum Class {
     End,
     Plain,
     BuiltIn(BuiltIn, Name),
@@ -45,11 +37,8 @@ pub(crate) fn front_class<R: Run>(context: Context<'_>, w: &TagTable<HideSet>, r
     ensures answer { result ≡ class (macros context.entry) (slice_get (waiting w.now ++ R.Run.rest run.old) 0) }
     ensures same { (R.Run.rest run.new ≡ R.Run.rest run.old) × (R.Run.end run.new ≡ R.Run.end run.old) }
 {
-    if let Some(item) = first_waiting(w) {
-        return class_of(context, item);
-    }
-    run.fill();
-    match run.first() {
+    fetch_front(w, run);
+    match front(w, run) {
         Some(item) => class_of(context, item),
         None => Class::End,
     }
@@ -59,7 +48,7 @@ pub(crate) fn front_class<R: Run>(context: Context<'_>, w: &TagTable<HideSet>, r
 fn class_of(context: Context<'_>, item: TagRef<'_, HideSet>) -> Class
     ensures { result ≡ class_of (macros context.entry) (referred_to item.entry) }
 {
-    if !matches!(item.token.kind, Kind::Identifier) {
+    if item.token.kind != Kind::Identifier {
         return Class::Plain;
     }
     let slot = context.definitions.find(item.token.spelling);
@@ -85,10 +74,7 @@ fn name_of(item: TagRef<'_, HideSet>) -> Name
 fn is_hidden(slot: Option<usize>, hides: HideSet) -> bool
     ensures { result ≡ elim slot [ None ↦ false | Some k ↦ in_set hides k ] }
 {
-    match slot {
-        Some(slot) => hides.contains(slot),
-        None => false,
-    }
+    slot.is_some_and(|slot| hides.contains(slot))
 }
 
 fn built_in(name: &[u8]) -> Option<BuiltIn>

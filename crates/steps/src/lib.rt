@@ -4,12 +4,11 @@
 mod built_in;
 mod class;
 mod context;
-mod contexts;
 mod hand;
 mod prepared;
 mod words;
 
-pub use class::{BuiltIn, Name};
+pub use class::BuiltIn;
 pub use context::Context;
 pub use hand::hand_on;
 pub use prepared::{Call, Handed, Prepared, prepare};

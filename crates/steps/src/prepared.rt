@@ -1,7 +1,7 @@
 // A step up to the point where a token is handed on or a macro's result is made.
-ghost use Rattle.std.specs.Prelude.{◌≡◌, ℕ, ◌-◌, ◌&&◌, ◌||◌, if◌then◌else◌, Some, None, Ok, Err, ◌==◌, nat_eq, nat_lt};
+ghost use Rattle.std.specs.Prelude.{◌≡◌, ℕ, ◌-◌, ◌&&◌, ◌||◌, is_ok, IfErr, if◌then◌else◌, Some, None, Ok, Err, ◌==◌, nat_eq, nat_lt};
 ghost use Rattle.std.specs.List.{slice_get};
-ghost use Rattle.text.specs.declared.FaultKind.TheVariants.{ManyReplacements};
+ghost use Rattle.text.specs.declared.FaultKind.TheVariants.{ArgumentCount, ManyReplacements};
 ghost use Rattle.token.specs.Views.{view_tokens};
 ghost use Rattle.item.specs.Sets.{in_set};
 ghost use Rattle.definition.specs.Definitions.{member, variable};
@@ -13,11 +13,11 @@ ghost use Rattle.steps.specs.Calling.{is_opening, fault_at, open_fault, argument
 ghost use Rattle.steps.specs.Contexts.{macros, file_of};
 ghost use Rattle.steps.specs.Steps.{Preparing, Falling};
 
-use crate::class::{BuiltIn, Class, Name, front_class};
+use crate::class::{BuiltIn, Class, front_class};
 use crate::context::Context;
 use crate::words::index_of;
-use invocation::{Arguments, Bracket, Gathered, Run, drop_front, front_bracket};
-use item::{HideSet, TagTable};
+use invocation::{Arguments, Bracket, GatherError, Run, drop_front, front_bracket};
+use item::{HideSet, Name, TagTable};
 use source::Ending;
 use text::{Fault, FaultKind};
 use token::Tokens;
@@ -31,13 +31,11 @@ pub enum Handed {
     BuiltIn(BuiltIn, Name),
 }
 
-// A macro that is replaced, by the slot of its definition; its result hides the set.
+// A macro that is replaced, by the slot of its definition; its result hides the set of the name.
 #[derive(Clone, Copy)]
 pub struct Call {
     pub slot: usize,
-    pub line: u32,
-    pub marked: bool,
-    pub hides: HideSet,
+    pub name: Name,
 }
 
 #[derive(Clone, Copy)]
@@ -100,12 +98,12 @@ fn prepare_call<R: Run>(
     ensures same { R.Run.end run.new ≡ R.Run.end run.old }
 {
     match arguments.gather(w, run) {
-        Gathered::Full => Err(fault_at(FaultKind::ManyTokens, name.line)),
-        Gathered::Open => Err(open_fault(run.ending(), name.line)),
-        Gathered::Closed(close) => {
+        Err(GatherError::Full) => Err(FaultKind::ManyTokens.at(name.line)),
+        Err(GatherError::Open) => Err(open_fault(run.ending(), name.line)),
+        Ok(close) => {
             drop_front(w, run);
-            if !part(context, slot, arguments) {
-                return Err(fault_at(FaultKind::ArgumentCount, name.line));
+            if let Err(kind) = part(context, slot, arguments) {
+                return Err(kind.at(name.line));
             }
             let call = call_of(slot, name, hidden_by(name, close));
             counted(left, name.line, Prepared::Replace(call))
@@ -113,16 +111,13 @@ fn prepare_call<R: Run>(
     }
 }
 
-// Whether the tokens in parentheses are arguments for the parameters of the definition.
-fn part(context: Context<'_>, slot: usize, arguments: &mut Arguments) -> bool
-    ensures { arguments_of (slice_get (macros context.entry) slot) (items_of (macros context.entry) (inside arguments.old)) ≡ (if result then Some (arguments_in (macros context.entry) arguments.new) else None) }
+// Parts the tokens in parentheses into arguments for the parameters of the definition.
+fn part(context: Context<'_>, slot: usize, arguments: &mut Arguments) -> Result<(), FaultKind>
+    ensures parts { arguments_of (slice_get (macros context.entry) slot) (items_of (macros context.entry) (inside arguments.old)) ≡ (if is_ok result then Some (arguments_in (macros context.entry) arguments.new) else None) }
+    ensures fault { IfErr result (λ f. f ≡ ArgumentCount) }
 {
-    let Some(definition) = context.definitions.get(slot) else {
-        return false;
-    };
-    let Some(parameters) = definition.parameters else {
-        return false;
-    };
+    let definition = context.definition(slot).ok_or(FaultKind::ArgumentCount)?;
+    let parameters = definition.parameters.ok_or(FaultKind::ArgumentCount)?;
     arguments.part(parameters.len(), has_variable(parameters))
 }
 
@@ -148,14 +143,13 @@ fn hidden_by(name: Name, close: HideSet) -> HideSet
 
 // The replacement of a name, with the set that its result hides besides the name.
 fn call_of(slot: usize, name: Name, hides: HideSet) -> Call
-    ensures place { result ≡ record { slot = slot; line = name.line; marked = name.marked; hides = result.hides } }
-    ensures hides { (k : ℕ) → in_set result.hides k ≡ ((k == slot && nat_lt slot 256) || in_set hides k) }
+    ensures place { result ≡ record { slot = slot; name = record { line = name.line; marked = name.marked; hides = result.name.hides } } }
+    ensures hides { (k : ℕ) → in_set result.name.hides k ≡ ((k == slot && nat_lt slot 256) || in_set hides k) }
 {
+    let hides = hides.with(slot);
     Call {
         slot,
-        line: name.line,
-        marked: name.marked,
-        hides: hides.with(slot),
+        name: Name { hides, ..name },
     }
 }
 
@@ -164,10 +158,8 @@ fn counted(left: &mut u32, line: u32, prepared: Prepared) -> Result<Prepared, Fa
     ensures answer { result ≡ (if nat_eq left.old 0 then Err (fault_at ManyReplacements line) else Ok prepared) }
     ensures less { left.new ≡ left.old - 1 }
 {
-    if *left == 0 {
-        return Err(fault_at(FaultKind::ManyReplacements, line));
-    }
-    *left -= 1;
+    let fault = FaultKind::ManyReplacements.at(line);
+    *left = left.checked_sub(1).ok_or(fault)?;
     Ok(prepared)
 }
 
@@ -176,13 +168,7 @@ fn open_fault(ending: Ending, line: u32) -> Fault
     ensures { result ≡ open_fault ending line }
 {
     match ending {
-        Ending::Whole => fault_at(FaultKind::OpenCall, line),
+        Ending::Whole => FaultKind::OpenCall.at(line),
         Ending::Fails(fault) => fault,
     }
-}
-
-fn fault_at(kind: FaultKind, line: u32) -> Fault
-    ensures { result ≡ fault_at kind line }
-{
-    Fault { kind, line }
 }

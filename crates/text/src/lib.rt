@@ -3,21 +3,23 @@
 
 ghost use Rattle.std.specs.Prelude.{◌≡◌};
 ghost use Rattle.text.specs.Faults.{fault_number, fault_phase};
+ghost use Rattle.text.specs.declared.FaultKind.TheVariants.{ManyTokens};
 
 pub mod bytes;
 mod slices;
 
 pub use slices::{same_bytes, slice_of};
+use std::fmt;
 
 // A byte and the physical line that it stands on.
-#[derive(Clone, Copy)]
+#[derive(Clone, Copy, PartialEq, Debug)]
 pub struct Placed {
     pub byte: u8,
     pub line: u32,
 }
 
 // What can be wrong with a text.
-#[derive(Clone, Copy)]
+#[derive(Clone, Copy, PartialEq, Debug)]
 pub enum FaultKind {
     BrokenFile = 11,
     BadByte = 12,
@@ -69,11 +71,45 @@ impl FaultKind {
             _ => 3,
         }
     }
+
+    // The fault on a physical line.
+    pub fn at(self, line: u32) -> Fault
+        ensures { result ≡ record { kind = self; line = line } }
+    {
+        Fault { kind: self, line }
+    }
+}
+
+impl fmt::Display for FaultKind {
+    fn fmt<W: fmt::Write>(&self, f: &mut fmt::Formatter<W>) -> fmt::Result {
+        let number = self.number();
+        let phase = self.phase();
+        write!(f, "fault {number} phase {phase}")
+    }
 }
 
 // A fault and the physical line that it stands on.
-#[derive(Clone, Copy)]
+#[derive(Clone, Copy, PartialEq, Debug)]
 pub struct Fault {
     pub kind: FaultKind,
     pub line: u32,
+}
+
+// A table or a buffer that is full takes no more.
+#[derive(Clone, Copy, PartialEq, Debug)]
+pub struct Full;
+
+impl From<Full> for FaultKind {
+    ghost from_gives = { λ _ r. r ≡ ManyTokens };
+
+    fn from(_full: Full) -> FaultKind {
+        FaultKind::ManyTokens
+    }
+}
+
+// A part of what lies in a row: where it starts, and how long it is. It may run past the end.
+#[derive(Clone, Copy, PartialEq, Debug)]
+pub struct Extent {
+    pub start: usize,
+    pub len: usize,
 }

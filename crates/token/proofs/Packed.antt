@@ -7,22 +7,22 @@ use Rattle.token.specs.Packing.{packed}
 use Rattle.token.specs.Tables.{record_token}
 use Rattle.token.specs.Views.{spelled}
 
-pub starts : (at : ℕ) (r : Record) (rs : List Record) (end : ℕ) → packed at (r ∷ rs) end ≡ true → r.start ≡ at
-starts at r rs end h = eqb-true _ _ (and_parts (eqb r.start at) _ h).0
+pub starts : (at : ℕ) (r : Record) (rs : List Record) (end : ℕ) → packed at (r ∷ rs) end ≡ true → r.spelling.start ≡ at
+starts at r rs end h = eqb-true _ _ (and_parts (eqb r.spelling.start at) _ h).0
 
-pub goes_on : (at : ℕ) (r : Record) (rs : List Record) (end : ℕ) → packed at (r ∷ rs) end ≡ true → packed (at + r.len) rs end ≡ true
-goes_on at r rs end h = (and_parts (eqb r.start at) _ h).1
+pub goes_on : (at : ℕ) (r : Record) (rs : List Record) (end : ℕ) → packed at (r ∷ rs) end ≡ true → packed (at + r.spelling.len) rs end ≡ true
+goes_on at r rs end h = (and_parts (eqb r.spelling.start at) _ h).1
 
 pub ends : (at : ℕ) (rs : List Record) (end : ℕ) → packed at rs end ≡ true → at ≤ end
 ends at [] end h = omega (arith, eqb-true at end h)
-ends at (r ∷ rs) end h = omega (arith, ends (at + r.len) rs end (goes_on at r rs end h))
+ends at (r ∷ rs) end h = omega (arith, ends (at + r.spelling.len) rs end (goes_on at r rs end h))
 
 -- one more record, which starts where the last one ended
-pub packed-push : (at : ℕ) (rs : List Record) (end : ℕ) (r : Record) → packed at rs end ≡ true → r.start ≡ end → packed at (rs ++ r ∷ []) (end + r.len) ≡ true
+pub packed-push : (at : ℕ) (rs : List Record) (end : ℕ) (r : Record) → packed at rs end ≡ true → r.spelling.start ≡ end → packed at (rs ++ r ∷ []) (end + r.spelling.len) ≡ true
 packed-push at [] end r h e =
-    let same = eqb-true at end h in and_from _ _ (eq-eqb _ _ (e ∙ sym same)) (eq-eqb _ _ (ap (λ n. n + r.len) same))
+    let same = eqb-true at end h in and_from _ _ (eq-eqb _ _ (e ∙ sym same)) (eq-eqb _ _ (ap (λ n. n + r.spelling.len) same))
 packed-push at (s ∷ rs) end r h e =
-    and_from _ _ (eq-eqb _ _ (starts at s rs end h)) (packed-push (at + s.len) rs end r (goes_on at s rs end h) e)
+    and_from _ _ (eq-eqb _ _ (starts at s rs end h)) (packed-push (at + s.spelling.len) rs end r (goes_on at s rs end h) e)
 
 -- a spelling within the text stays, whatever is added behind
 spelling_stays : (text more : List ℕ) (start len : ℕ) → start + len ≤ length text → take len (drop start (text ++ more)) ≡ take len (drop start text)
@@ -30,34 +30,34 @@ spelling_stays text more start len h =
     let long : len ≤ length (drop start text) = simp length-drop (omega arith) in
     ap (take len) (drop-append-le start text more (omega arith)) ∙ take-append-le len (drop start text) more long
 
-within : (at : ℕ) (r : Record) (rs : List Record) (end : ℕ) → packed at (r ∷ rs) end ≡ true → r.start + r.len ≤ end
-within at r rs end h = omega (arith, starts at r rs end h, ends (at + r.len) rs end (goes_on at r rs end h))
+within : (at : ℕ) (r : Record) (rs : List Record) (end : ℕ) → packed at (r ∷ rs) end ≡ true → r.spelling.start + r.spelling.len ≤ end
+within at r rs end h = omega (arith, starts at r rs end h, ends (at + r.spelling.len) rs end (goes_on at r rs end h))
 
 pub tokens_stay : (text more : List ℕ) (at : ℕ) (rs : List Record) → packed at rs (length text) ≡ true → map (record_token (text ++ more)) rs ≡ map (record_token text) rs
 tokens_stay text more at [] h = refl
 tokens_stay text more at (r ∷ rs) h =
-    let same = spelling_stays text more r.start r.len (within at r rs _ h) in
-    (λ i. record { kind = r.kind; spelling = same i; line = r.line; marked = r.marked } ∷ tokens_stay text more (at + r.len) rs (goes_on at r rs _ h) i)
+    let same = spelling_stays text more r.spelling.start r.spelling.len (within at r rs _ h) in
+    (λ i. record { kind = r.kind; spelling = same i; line = r.line; marked = r.marked } ∷ tokens_stay text more (at + r.spelling.len) rs (goes_on at r rs _ h) i)
 
 -- the spellings make up the text
 pub spelled-packed : (text : List ℕ) (at : ℕ) (rs : List Record) → packed at rs (length text) ≡ true → at + spelled (map (record_token text) rs) ≡ length text
 spelled-packed text at [] h = omega (arith, eqb-true at _ h)
 spelled-packed text at (r ∷ rs) h =
-    let long : r.len ≤ length (drop r.start text) = simp length-drop (omega (arith, within at r rs _ h)) in
-    omega (arith, length-take-le r.len (drop r.start text) long, spelled-packed text (at + r.len) rs (goes_on at r rs _ h))
+    let long : r.spelling.len ≤ length (drop r.spelling.start text) = simp length-drop (omega (arith, within at r rs _ h)) in
+    omega (arith, length-take-le r.spelling.len (drop r.spelling.start text) long, spelled-packed text (at + r.spelling.len) rs (goes_on at r rs _ h))
 
 -- one more token, whose spelling is added to the text
-pub tokens-push : (text more : List ℕ) (rs : List Record) (r : Record) → packed 0 rs (length text) ≡ true → r.start ≡ length text → r.len ≡ length more → map (record_token (text ++ more)) (rs ++ r ∷ []) ≡ map (record_token text) rs ++ record { kind = r.kind; spelling = more; line = r.line; marked = r.marked } ∷ []
+pub tokens-push : (text more : List ℕ) (rs : List Record) (r : Record) → packed 0 rs (length text) ≡ true → r.spelling.start ≡ length text → r.spelling.len ≡ length more → map (record_token (text ++ more)) (rs ++ r ∷ []) ≡ map (record_token text) rs ++ record { kind = r.kind; spelling = more; line = r.line; marked = r.marked } ∷ []
 tokens-push text more rs r h s e =
-    let spelling : take r.len (drop r.start (text ++ more)) ≡ more = ap (take r.len) (drop_at text more r.start (sym s)) ∙ take_all r.len more (omega arith) in
+    let spelling : take r.spelling.len (drop r.spelling.start (text ++ more)) ≡ more = ap (take r.spelling.len) (drop_at text more r.spelling.start (sym s)) ∙ take_all r.spelling.len more (omega arith) in
     map_push (record_token (text ++ more)) rs r ∙ (λ i. tokens_stay text more 0 rs h i ++ record { kind = r.kind; spelling = spelling i; line = r.line; marked = r.marked } ∷ [])
 
 -- without its last record: that one ends where the text does, and the others are packed up to its start
-pub packed-pop : (at : ℕ) (rs : List Record) (r : Record) (end : ℕ) → packed at (rs ++ r ∷ []) end ≡ true → (packed at rs r.start ≡ true) × (r.start + r.len ≡ end)
+pub packed-pop : (at : ℕ) (rs : List Record) (r : Record) (end : ℕ) → packed at (rs ++ r ∷ []) end ≡ true → (packed at rs r.spelling.start ≡ true) × (r.spelling.start + r.spelling.len ≡ end)
 packed-pop at [] r end h =
     let s = starts at r [] end h in (eq-eqb _ _ (sym s), omega (arith, s, eqb-true _ _ (goes_on at r [] end h)))
 packed-pop at (s ∷ rs) r end h =
-    let rest = packed-pop (at + s.len) rs r end (goes_on at s (rs ++ r ∷ []) end h) in
+    let rest = packed-pop (at + s.spelling.len) rs r end (goes_on at s (rs ++ r ∷ []) end h) in
     (and_from _ _ (eq-eqb _ _ (starts at s (rs ++ r ∷ []) end h)) rest.0, rest.1)
 
 -- tokens whose spellings end at or before n are the same in the first n bytes of the text
@@ -67,9 +67,9 @@ tokens-cut text at n rs h le =
     sym (tokens_stay (take n text) (drop n text) at rs dense) ∙ ap (λ t. map (record_token t) rs) (take-append-drop n text)
 
 -- the last token and its spelling taken away
-pub tokens-pop : (text : List ℕ) (rs : List Record) (r : Record) → packed 0 (rs ++ r ∷ []) (length text) ≡ true → map (record_token (take r.start text)) rs ≡ take (length (map (record_token text) (rs ++ r ∷ [])) - 1) (map (record_token text) (rs ++ r ∷ []))
+pub tokens-pop : (text : List ℕ) (rs : List Record) (r : Record) → packed 0 (rs ++ r ∷ []) (length text) ≡ true → map (record_token (take r.spelling.start text)) rs ≡ take (length (map (record_token text) (rs ++ r ∷ [])) - 1) (map (record_token text) (rs ++ r ∷ []))
 tokens-pop text rs r h =
     let both = packed-pop 0 rs r _ h in
     let ts = map (record_token text) rs in
     let last = record_token text r in
-    tokens-cut text 0 r.start rs both.0 (omega (arith, both.1)) ∙ sym (take_at ts (last ∷ []) _ (omega (arith, length_push ts last))) ∙ ap (λ xs. take (length xs - 1) xs) (sym (map_push (record_token text) rs r))
+    tokens-cut text 0 r.spelling.start rs both.0 (omega (arith, both.1)) ∙ sym (take_at ts (last ∷ []) _ (omega (arith, length_push ts last))) ∙ ap (λ xs. take (length xs - 1) xs) (sym (map_push (record_token text) rs r))

@@ -5,4 +5,4 @@ use Rattle.token.specs.declared.record.Record.{Record}
 -- from the first byte on, each record starts where the last one ended, and the last one ends at the end
 abbrev pub packed : ℕ → List Record → ℕ → Bool
 packed at [] end = at == end
-packed at (r ∷ rs) end = r.start == at && packed (at + r.len) rs end
+packed at (r ∷ rs) end = r.spelling.start == at && packed (at + r.spelling.len) rs end

@@ -1,7 +1,5 @@
 -- Tokens as they are read, and how many bytes they take. Assumes nothing.
 use Rattle.std.specs.Prelude.{ℕ, ◌+◌, Bool, ◌&&◌, List, [], ◌∷◌, map, length, nat_le, nat_lt}
-use Rattle.token.specs.declared.TokenRef.{TokenRef}
-use Rattle.token.specs.declared.record.Record.{Record}
 use Rattle.token.specs.declared.table.TokenTable.{TokenTable}
 use Rattle.token.specs.declared.tokens.Tokens.{Tokens}
 use Rattle.token.specs.Tables.{record_token, table_tokens}
@@ -16,10 +14,6 @@ abbrev pub spelled : List Token → ℕ
 spelled [] = 0
 spelled (t ∷ ts) = length t.spelling + spelled ts
 
--- whether one more token, with a spelling of n bytes, stays within a table's limits
-abbrev pub has_room : TokenTable → ℕ → Bool
-has_room t n = nat_lt (length (table_tokens t)) t.tokens_limit && nat_le (spelled (table_tokens t) + n) t.bytes_limit
-
--- the record of a token whose spelling starts at the given place
-abbrev pub record_of : ℕ → TokenRef → Record
-record_of start t = record { kind = t.kind; start = start; len = length t.spelling.now; line = t.line; marked = t.marked }
+-- whether one more token, with a spelling of k bytes, stays within a table's limits
+abbrev pub has_room : {n b : ℕ} → TokenTable n b → ℕ → Bool
+has_room {n} {b} t k = nat_lt (length (table_tokens t)) n && nat_le (spelled (table_tokens t) + k) b

@@ -2,11 +2,11 @@
 #![tactic(auto)]
 
 ghost use Rattle.std.specs.Prelude.{◌≡◌};
+ghost use Rattle.std.specs.Str.{bytes_eq};
 ghost use Rattle.token.specs.Tokens.{kind_number};
 
 mod record;
 mod table;
-mod tables;
 mod tokens;
 
 pub use table::TokenTable;
@@ -39,4 +39,13 @@ pub struct TokenRef<'a> {
     pub spelling: &'a [u8],
     pub line: u32,
     pub marked: bool,
+}
+
+impl TokenRef<'_> {
+    // Whether the token is spelled so.
+    pub fn spells(self, word: &[u8]) -> bool
+        ensures { result ≡ bytes_eq self.entry.spelling.now word.now }
+    {
+        self.spelling == word
+    }
 }

@@ -1,5 +1,6 @@
-// The tokens of a table, to be read.
+// The tokens of a table, to be read, or taken from the front.
 ghost use Rattle.std.specs.Prelude.{◌≡◌, length, take, drop};
+ghost use Rattle.std.specs.Iterator.{YieldsFirstBy, item_count};
 ghost use Rattle.std.specs.List.{slice_get};
 ghost use Rattle.std.specs.Option.{option_map};
 ghost use Rattle.token.specs.Tables.{record_token, referred};
@@ -27,10 +28,8 @@ impl<'a> Tokens<'a> {
     pub fn get(&self, index: usize) -> Option<TokenRef<'a>>
         ensures { option_map referred result ≡ slice_get (view_tokens self.now) index }
     {
-        if index >= self.records.len() {
-            return None;
-        }
-        Some(token_of(self.text, self.records[index]))
+        let record = self.records.get(index)?;
+        Some(token_of(self.text, *record))
     }
 
     // The tokens from a start on, as many as are wanted or there are.
@@ -42,6 +41,27 @@ impl<'a> Tokens<'a> {
             text: self.text,
         }
     }
+
+    // The tokens behind the first ones.
+    pub fn behind(&self, count: usize) -> Tokens<'a>
+        ensures { view_tokens result ≡ drop count (view_tokens self.now) }
+    {
+        self.part(count, self.len())
+    }
+}
+
+impl<'a> Iterator for Tokens<'a> {
+    type Item = TokenRef<'a>;
+
+    ghost next_gives = { YieldsFirstBy referred view_tokens };
+
+    ghost remaining = { item_count view_tokens };
+
+    fn next(&mut self) -> Option<TokenRef<'a>> {
+        let (first, rest) = self.records.split_first()?;
+        self.records = rest;
+        Some(token_of(self.text, *first))
+    }
 }
 
 // The token of a record, with its spelling in the text.
@@ -50,7 +70,7 @@ fn token_of(text: &[u8], record: Record) -> TokenRef<'_>
 {
     TokenRef {
         kind: record.kind,
-        spelling: slice_of(text, record.start, record.len),
+        spelling: slice_of(text, record.spelling.start, record.spelling.len),
         line: record.line,
         marked: record.marked,
     }

@@ -3,17 +3,18 @@
 #![tactic(auto)]
 
 use lexer::{LineTokens, next_tokens};
-use shelf::{Entry, Extent, Shelf, TableShelf};
-use source::{Ending, FileSource, Line, NextLine, Reader, Source};
+use shelf::{Catalog, Entry, Extent, Shelf};
+use source::{Ending, FileSource, Line, Reader, Source};
 use std::alloc::{AllocError, Global};
 use std::io;
 use std::io::{Read, Write};
+use text::Fault;
 use token::Tokens;
 
 const NAME: &[u8] = b"plan.c";
 
 // The shelf of one file: the text is its name and then its content.
-fn shelf_of(heap: Global, text: &[u8]) -> Result<TableShelf<'_>, AllocError> {
+fn shelf_of(heap: Global, text: &[u8]) -> Result<Catalog<'_>, AllocError> {
     let name = Extent {
         start: 0,
         len: NAME.len(),
@@ -22,24 +23,22 @@ fn shelf_of(heap: Global, text: &[u8]) -> Result<TableShelf<'_>, AllocError> {
         start: NAME.len(),
         len: text.len().saturating_sub(NAME.len()),
     };
-    TableShelf::new(heap, text, &[Entry { name, content }])
+    Catalog::from_table(heap, text, &[Entry { name, content }])
 }
 
 // Adds a line for each token. The digits of a line number are made once for the tokens in a row that stand on it.
 fn add_tokens(heap: Global, listing: &mut Vec<u8>, tokens: Tokens<'_>) -> Result<(), AllocError> {
     let mut last = 0;
     let mut digits = String::new(heap);
-    for index in 0..tokens.len() {
-        if let Some(token) = tokens.get(index) {
-            if token.line != last {
-                last = token.line;
-                digits = format!(in heap; "{last}")?;
-            }
-            listing.extend_from_slice(digits.as_bytes())?;
-            listing.extend_from_slice(&[b' ', b'0' + token.kind.number(), b' '])?;
-            listing.extend_from_slice(token.spelling)?;
-            listing.push(b'\n')?;
+    for token in tokens {
+        if token.line != last {
+            last = token.line;
+            digits = format!(in heap; "{last}")?;
         }
+        listing.extend_from_slice(digits.as_bytes())?;
+        listing.extend_from_slice(&[b' ', b'0' + token.kind.number(), b' '])?;
+        listing.extend_from_slice(token.spelling)?;
+        listing.push(b'\n')?;
     }
     Ok(())
 }
@@ -48,12 +47,7 @@ fn add_tokens(heap: Global, listing: &mut Vec<u8>, tokens: Tokens<'_>) -> Result
 fn closing(heap: Global, ending: Ending) -> Result<String, AllocError> {
     match ending {
         Ending::Whole => String::from_str(heap, "// end\n"),
-        Ending::Fails(fault) => {
-            let number = fault.kind.number();
-            let phase = fault.kind.phase();
-            let line = fault.line;
-            format!(in heap; "// fault {number} phase {phase} plan.c {line}\n")
-        }
+        Ending::Fails(Fault { kind, line }) => format!(in heap; "// {kind} plan.c {line}\n"),
     }
 }
 
@@ -63,7 +57,7 @@ fn list<B: Source + Drop>(heap: Global, mut reader: Reader<B>) -> Result<Vec<u8>
     let mut line = Line::new(heap)?;
     let mut tokens = LineTokens::new(heap)?;
     loop {
-        if let NextLine::End(ending) = next_tokens(&mut reader, &mut line, &mut tokens) {
+        if let Err(ending) = next_tokens(&mut reader, &mut line, &mut tokens) {
             listing.extend_from_slice(closing(heap, ending)?.as_bytes())?;
             return Ok(listing);
         }

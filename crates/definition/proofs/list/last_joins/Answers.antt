@@ -1,13 +1,15 @@
-use Rattle.std.proofs.Common.{sym, ◌∙◌, arith}
-use Rattle.std.proofs.lemmas.Bool.{le-ltb}
+use Rattle.std.proofs.Common.{◌≡◌, sym, refl, ap, ◌∙◌, rules}
+use Rattle.std.proofs.lemmas.Iterator.{items_from_drains}
+use Rattle.std.proofs.lemmas.Iterator.Consumers.{YieldsList-from_first}
+use Rattle.token.specs.Tables.{referred}
 use Rattle.token.specs.Views.{view_tokens}
-use Rattle.definition.proofs.Lists.{last_joins_lem, last_none}
+use Rattle.definition.specs.Definitions.{last_joins}
+use Rattle.definition.proofs.Lists.{joins, last_joins_lem}
 use Rattle.definition.proofs.list.last_joins.Goals as goal
 
-pub returns-then-len-gt0 : goal.returns-then-len-gt0
-returns-then-len-gt0 c =
-    c.first_joins.ensures ∙ sym (last_joins_lem (view_tokens c.args.list) (view_tokens c.behind.result) c.len-len.result c.len-len.ensures (omega arith) c.behind.ensures)
-
-pub returns-else-len-gt0 : goal.returns-else-len-gt0
-returns-else-len-gt0 c =
-    le-ltb 0 c.len-len.result (omega arith) ∙ sym (last_none (view_tokens c.args.list) c.len-len.result c.len-len.ensures (omega arith))
+pub returns : goal.returns
+returns c =
+    let tested : c.is_some_and.result ≡ joins c.last.result = search rules in
+    let ran = c.last.ensures.ran in
+    let items = items_from_drains ran.0 (ran.1.1.0, ran.1.1.1, λ _. (ran.1.0, ran.1.1.2)) (YieldsList-from_first referred view_tokens _ refl) in
+    tested ∙ ap joins ran.2 ∙ sym (last_joins_lem ran.0) ∙ ap last_joins items

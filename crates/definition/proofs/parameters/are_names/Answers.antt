@@ -1,12 +1,11 @@
-use Rattle.std.proofs.Common.{sym, ◌∙◌, arith}
-use Rattle.token.specs.Views.{view_tokens}
-use Rattle.definition.proofs.Names.{names-stop, names_more}
+use Rattle.std.proofs.Common.{sym, ◌∙◌}
+use Rattle.definition.proofs.Names.{names_behind}
 use Rattle.definition.proofs.parameters.are_names.Goals as goal
 
-pub returns-then-not-starts_names : goal.returns-then-not-starts_names
-returns-then-not-starts_names c =
-    sym (c.loop-rest.invariant ∙ names-stop (view_tokens c.loop-rest.rest) (omega arith) c.if-not-starts_names.ensures)
+pub returns-then-not-is_fresh : goal.returns-then-not-is_fresh
+returns-then-not-is_fresh c =
+    sym (c.loop-name.invariant ∙ names_behind _ _ _ _ _ _ c.in-Some.ensures.steps c.in-Some-next.ensures.steps c.if-not-is_fresh.ensures)
 
-pub loop-rest-preserved : goal.loop-rest-preserved
-loop-rest-preserved c =
-    c.loop-rest.invariant ∙ names_more (view_tokens c.loop-rest.rest) (view_tokens c.behind-rest.result) c.if-not-starts_names.ensures c.behind-rest.ensures
+pub loop-name-preserved : goal.loop-name-preserved
+loop-name-preserved c =
+    c.loop-name.invariant ∙ names_behind _ _ _ _ _ _ c.in-Some.ensures.steps c.in-Some-next.ensures.steps c.if-not-is_fresh.ensures

@@ -1,8 +1,10 @@
-use Rattle.std.proofs.Common.{◌∙◌}
-use Rattle.token.specs.Views.{view_tokens}
-use Rattle.definition.proofs.Names.{member_more}
+use Rattle.std.proofs.Common.{ℕ, List, Bor, refl, rules, tests}
+use Rattle.std.specs.Str.{bytes_eq}
+use Rattle.std.proofs.lemmas.Iterator.Search.{any_from_yields_List}
+use Rattle.std.proofs.lemmas.Iterator.Consumers.{YieldsList-from_first}
+use Rattle.definition.specs.Meaning.{names_of}
 use Rattle.definition.proofs.parameters.has_parameter.Goals as goal
 
-pub loop-token-preserved : goal.loop-token-preserved
-loop-token-preserved c =
-    c.loop-token.invariant ∙ member_more c.args.word.now (view_tokens c.loop-token.rest) (view_tokens c.behind-rest.result) _ c.in-Some.ensures c.if-is_called.ensures c.behind-rest.ensures
+pub returns : goal.returns
+returns c =
+    any_from_yields_List (bytes_eq c.args.word.now) c.any.new.self _ _ c.any.ensures.ran (YieldsList-from_first (λ (w : Bor (List ℕ)). w.now) names_of _ refl) (λ x b q k. search (rules, tests))

@@ -1,11 +1,8 @@
-use Rattle.std.proofs.Common.{◌≡◌, ◌++◌, length}
-use Rattle.token.specs.Tables.{table_tokens, limit_of_tokens, limit_of_bytes}
+use Rattle.std.proofs.Common.{◌≡◌, ◌++◌}
+use Rattle.token.specs.Tables.{table_tokens}
 use Rattle.token.specs.Views.{view_tokens}
 use Rattle.definitions.proofs.lay.lay_tokens.Given as goal
 
--- what the table holds and what is left make up the same
+-- what the table holds and what is left are the same as at the start
 abbrev pub invariant-loop-token : goal.invariant-loop-token
-invariant-loop-token l = (table_tokens l.table ++ view_tokens l.rest ≡ table_tokens l.initial.table ++ view_tokens l.initial.rest) × ((limit_of_tokens l.table ≡ limit_of_tokens l.initial.table) × (limit_of_bytes l.table ≡ limit_of_bytes l.initial.table))
-
-abbrev pub decreases-loop-token : goal.decreases-loop-token
-decreases-loop-token l = length (view_tokens l.rest)
+invariant-loop-token l = table_tokens l.table ++ view_tokens l.token-iterator ≡ table_tokens l.initial.table ++ view_tokens l.tokens

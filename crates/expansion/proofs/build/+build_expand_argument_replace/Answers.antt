@@ -7,7 +7,6 @@ use Rattle.text.specs.Faults.{fault_number}
 use Rattle.token.specs.Tables.{referred}
 use Rattle.token.specs.Views.{view_tokens}
 use Rattle.definitions.specs.Blocks.{spellings}
-use Rattle.invocation.proofs.Lists.{take_behind}
 use Rattle.replacement.specs.Replacing.{built}
 use Rattle.item.specs.Tables.{held, shown}
 use Rattle.source.specs.declared.Ending.TheVariants.{Fails}
@@ -55,7 +54,7 @@ replace-returns-in-Err t c =
     record {
       result = λ next run.
           let h = not_placed ms c.args.call next (waiting_in c.args.context c.args.level.now) run _ (pieces_for e args c.args.call c.args.left m) (by_pieces ms c.args.call e args c.args.left m) (pieces_of ms (held c.build.new.level.pieces)) _ given _ (items_of ms (waiting c.place_result.new.w)) (ap (λ x. items_of ms (waiting x)) c.in_ok-left.ensures.same) c.in-Err.kind (c.in-Err.ensures ms) in
-          (h.0, h.1 ∙ ap (λ f. end_of (Fails f)) (sym c.fault_at.ensures));
+          (h.0, h.1 ∙ ap (λ f. end_of (Fails f)) (sym c.at.ensures));
       fewer = tt;
     }
 
@@ -83,8 +82,8 @@ expand_argument-returns-in-End t c =
     let deep : length c.args.scratch.now ≡ suc n = omega (arith, c.in-Some.ensures.cases.1) in
     argument_ended ms file n (length c.args.scratch.now) c.args.line c.args.left (waiting c.clear.new.self) (shown c.args.argument) (items_of ms (held c.loop-handed.to)) s deep (ap reverse c.clear.ensures) c.loop-handed.invariant.0 c.prepare.new.left (not_over ms c.loop-handed.to) (step_ended ms file n whole s u (arguments_in ms c.prepare.new.arguments) c.in_ok-prepare.field-0 c.in_ok-prepare.ensures.step c.in-End.is)
 
-pub expand_argument-returns-then-not-hand_on : goal.expand_argument-returns-then-not-hand_on
-expand_argument-returns-then-not-hand_on t c =
+pub expand_argument-returns-then-is_err : goal.expand_argument-returns-then-is_err
+expand_argument-returns-then-is_err t c =
     let ms = macros c.args.context in
     let file = file_of c.args.context in
     let n = length c.in-Some.below.now in
@@ -93,13 +92,13 @@ expand_argument-returns-then-not-hand_on t c =
     let h = c.in-Hand.handed in
     let is = handed_items ms file (u.w ++ u.run) h in
     let deep : length c.args.scratch.now ≡ suc n = omega (arith, c.in-Some.ensures.cases.1) in
-    let big : over (items_of ms (held c.loop-handed.to) ++ is) ≡ true = not-false _ (sym c.hand_on.ensures.room ∙ c.if-not-hand_on.true) in
+    let big : over (items_of ms (held c.loop-handed.to) ++ is) ≡ true = not-false _ (sym c.hand_on-pushed.ensures.room ∙ c.if-is_err.ensures.negation) in
     let v : State = behind u (taken h) u.left in
     let steps = step_handed ms file n whole s u (arguments_in ms c.prepare.new.arguments) c.in_ok-prepare.field-0 h v.w v.run c.in_ok-prepare.ensures.step c.in-Hand.is (record { first = refl; then = refl }) in
-    argument_over ms file n (length c.args.scratch.now) c.args.line c.args.left (waiting c.clear.new.self) (shown c.args.argument) (items_of ms (held c.loop-handed.to)) s deep (ap reverse c.clear.ensures) c.loop-handed.invariant.0 is v steps big ∙ ap (λ f. end_of (Fails f)) (sym c.fault_at-then-not-hand_on.ensures)
+    argument_over ms file n (length c.args.scratch.now) c.args.line c.args.left (waiting c.clear.new.self) (shown c.args.argument) (items_of ms (held c.loop-handed.to)) s deep (ap reverse c.clear.ensures) c.loop-handed.invariant.0 is v steps big ∙ ap (λ f. end_of (Fails f)) (sym c.at-then-is_err.ensures)
 
-pub expand_argument-loop-handed-preserved-else-not-hand_on : goal.expand_argument-loop-handed-preserved-else-not-hand_on
-expand_argument-loop-handed-preserved-else-not-hand_on t c =
+pub expand_argument-loop-handed-preserved-else-is_err : goal.expand_argument-loop-handed-preserved-else-is_err
+expand_argument-loop-handed-preserved-else-is_err t c =
     let ms = macros c.args.context in
     let file = file_of c.args.context in
     let n = length c.in-Some.below.now in
@@ -107,11 +106,11 @@ expand_argument-loop-handed-preserved-else-not-hand_on t c =
     let u : State = record { left = c.prepare.new.left; w = waiting c.prepare.new.w; run = shown c.prepare.new.run.items } in
     let h = c.in-Hand.handed in
     let is = handed_items ms file (u.w ++ u.run) h in
-    let drops = c.hand_on.ensures.dropped c.if-not-hand_on.false in
-    let v : State = record { left = u.left; w = waiting c.hand_on.new.w; run = shown c.hand_on.new.run.items } in
+    let drops = c.hand_on-pushed.ensures.dropped c.if-is_err.ensures.negation in
+    let v : State = record { left = u.left; w = waiting c.hand_on-pushed.new.w; run = shown c.hand_on-pushed.new.run.items } in
     let steps = step_handed ms file n whole s u (arguments_in ms c.prepare.new.arguments) c.in_ok-prepare.field-0 h v.w v.run c.in_ok-prepare.ensures.step c.in-Hand.is drops in
-    let moves : items_of ms (held c.hand_on.new.to) ≡ items_of ms (held c.loop-handed.to) ++ is = c.hand_on.ensures.moved ∙ ap (λ b. items_of ms (held c.loop-handed.to) ++ cond b is []) c.if-not-hand_on.false in
-    (more_handed ms file n whole _ (items_of ms (held c.loop-handed.to)) is (items_of ms (held c.hand_on.new.to)) s v c.loop-handed.invariant.0 steps moves, omega (arith, c.loop-handed.invariant.1, falls_handed s u c.in_ok-prepare.field-0 h v.w v.run c.in_ok-prepare.ensures.falls c.in-Hand.is drops), c.loop-handed.invariant.2)
+    let moves : items_of ms (held c.hand_on-pushed.new.to) ≡ items_of ms (held c.loop-handed.to) ++ is = c.hand_on-pushed.ensures.moved ∙ ap (λ b. items_of ms (held c.loop-handed.to) ++ cond b is []) c.if-is_err.ensures.negation in
+    (more_handed ms file n whole _ (items_of ms (held c.loop-handed.to)) is (items_of ms (held c.hand_on-pushed.new.to)) s v c.loop-handed.invariant.0 steps moves, omega (arith, c.loop-handed.invariant.1, falls_handed s u c.in_ok-prepare.field-0 h v.w v.run c.in_ok-prepare.ensures.falls c.in-Hand.is drops), c.loop-handed.invariant.2)
 
 pub expand_argument-returns-in_err-left-in-Replace : goal.expand_argument-returns-in_err-left-in-Replace
 expand_argument-returns-in_err-left-in-Replace t c =
@@ -149,7 +148,7 @@ pub build-returns-in_err-left-clause-pieces : goal.build-returns-in_err-left-cla
 build-returns-in_err-left-clause-pieces t c =
     let ms = macros c.args.context in
     let file = file_of c.args.context in
-    let line = c.args.call.line in
+    let line = c.args.call.name.line in
     let e = expander c.args.context c.args.below.now in
     let args = arguments_of c.args.context c.args.level.now in
     let d = c.in-Some.definition in
@@ -167,11 +166,11 @@ build-returns-in_err-left-clause-pieces t c =
     rw (q.1, q.2)
     (ap (λ o. o.ending) (pieces_are e args c.args.call c.args.left (slice_get ms c.args.call.slot) d c.in-Some.ensures) ∙ built_unexpanded e line ps args b qs c.loop-token.left (view_tokens c.loop-token.rest) c.loop-token.joins inv.0 token u c.len.result c.part_of-part.result c.in-Some-get.ensures c.get-in-Some-get.ensures all c.part_of-part.ensures k (fault_number f.kind) f.line c.in-Expanded.is (table_within ms c.loop-token.level.pieces inv.1) (ap (λ o. o.ending) (sym same) ∙ c.in_err-left.ensures))
 
-pub build-returns-in_err-add_part-clause-pieces : goal.build-returns-in_err-add_part-clause-pieces
-build-returns-in_err-add_part-clause-pieces g c =
+pub build-returns-in-Err-clause-pieces : goal.build-returns-in-Err-clause-pieces
+build-returns-in-Err-clause-pieces g c =
     let ms = macros c.args.context in
     let file = file_of c.args.context in
-    let line = c.args.call.line in
+    let line = c.args.call.name.line in
     let e = expander c.args.context c.args.below.now in
     let args = arguments_of c.args.context c.args.level.now in
     let d = c.in-Some.definition in
@@ -192,16 +191,14 @@ build-returns-in_err-add_part-clause-pieces g c =
     let arguments : c.match-part.level.arguments ≡ c.loop-token.level.arguments = elim c.match-part.branch [ build-in-Expanded+in_ok-left w ↦ ap (λ l. l.arguments) w.level-is | build-in_default-part w ↦ ap (λ l. l.arguments) w.level-is ] in
     let pieces : c.match-part.level.pieces ≡ c.loop-token.level.pieces = elim c.match-part.branch [ build-in-Expanded+in_ok-left w ↦ ap (λ l. l.pieces) w.level-is | build-in_default-part w ↦ ap (λ l. l.pieces) w.level-is ] in
     let same = added_same line args (arguments_in ms c.match-part.level.arguments) is t p qs (pieces_of ms (held c.match-part.level.pieces)) c.match-part.left (ap (arguments_in ms) (arguments ∙ inv.3)) (ap (λ x. pieces_of ms (held x)) pieces) in
-    let f = c.in_err-add_part.field-0.0 in
-    let q = err_from_is_err_and c.from_residual-in_err-add_part.result c.from_residual-in_err-add_part.ensures.1 in
-    rw (q.1, q.2)
-    (ap (λ o. o.ending) (pieces_are e args c.args.call c.args.left (slice_get ms c.args.call.slot) d c.in-Some.ensures) ∙ built_fault e line ps args b qs c.loop-token.left (view_tokens c.loop-token.rest) c.loop-token.joins inv.0 t u c.len.result p c.in-Some-get.ensures c.get-in-Some-get.ensures all (is-part ∙ c.part_of-part.ensures) is c.match-part.left ready (fault_number f.kind) f.line (ap (λ o. o.ending) same ∙ c.in_err-add_part.ensures.added ms c.match-part.left))
+    let k = c.in-Err.kind in
+    ap (λ o. o.ending) (pieces_are e args c.args.call c.args.left (slice_get ms c.args.call.slot) d c.in-Some.ensures) ∙ built_fault e line ps args b qs c.loop-token.left (view_tokens c.loop-token.rest) c.loop-token.joins inv.0 t u c.len.result p c.in-Some-get.ensures c.get-in-Some-get.ensures all (is-part ∙ c.part_of-part.ensures) is c.match-part.left ready (fault_number k) line (ap (λ o. o.ending) same ∙ c.in-Err.ensures.added ms c.match-part.left) ∙ ap (λ f. end_of (Fails f)) (sym c.at.ensures)
 
 pub build-loop-token-preserved : goal.build-loop-token-preserved
 build-loop-token-preserved g c =
     let ms = macros c.args.context in
     let file = file_of c.args.context in
-    let line = c.args.call.line in
+    let line = c.args.call.name.line in
     let e = expander c.args.context c.args.below.now in
     let args = arguments_of c.args.context c.args.level.now in
     let d = c.in-Some.definition in
@@ -223,9 +220,9 @@ build-loop-token-preserved g c =
     let pieces : c.match-part.level.pieces ≡ c.loop-token.level.pieces = elim c.match-part.branch [ build-in-Expanded+in_ok-left w ↦ ap (λ l. l.pieces) w.level-is | build-in_default-part w ↦ ap (λ l. l.pieces) w.level-is ] in
     let same = added_same line args (arguments_in ms c.match-part.level.arguments) is t p qs (pieces_of ms (held c.match-part.level.pieces)) c.match-part.left (ap (arguments_in ms) (arguments ∙ inv.3)) (ap (λ x. pieces_of ms (held x)) pieces) in
     let w : c.match-part.level.w ≡ c.loop-token.level.w = elim c.match-part.branch [ build-in-Expanded+in_ok-left w ↦ ap (λ l. l.w) w.level-is | build-in_default-part w ↦ ap (λ l. l.w) w.level-is ] in
-    let rest = c.part-rest.ensures ∙ take_behind (view_tokens c.loop-token.rest) c.width.result c.len-in-Some-get.result c.len-in-Some-get.ensures ∙ ap (λ n. drop n (view_tokens c.loop-token.rest)) c.width.ensures in (
-      built_more e line ps args b qs c.loop-token.left (view_tokens c.loop-token.rest) c.loop-token.joins inv.0 t u c.len.result p c.in-Some-get.ensures c.get-in-Some-get.ensures all (is-part ∙ c.part_of-part.ensures) is c.match-part.left ready (pieces_of ms (held c.add_part.new.pieces)) c.is_join-joins.result (view_tokens c.part-rest.result) (same ∙ c.in_ok-add_part.ensures.added ms c.match-part.left) c.is_join-joins.ensures rest,
-      c.in_ok-add_part.ensures.sized,
+    let rest = c.behind-rest.ensures ∙ ap (λ n. drop n (view_tokens c.loop-token.rest)) c.width.ensures in (
+      built_more e line ps args b qs c.loop-token.left (view_tokens c.loop-token.rest) c.loop-token.joins inv.0 t u c.len.result p c.in-Some-get.ensures c.get-in-Some-get.ensures all (is-part ∙ c.part_of-part.ensures) is c.match-part.left ready (pieces_of ms (held c.add_part.new.pieces)) c.is_join-joins.result (view_tokens c.behind-rest.result) (same ∙ c.in_default-add_part.ensures.added ms c.match-part.left) c.is_join-joins.ensures rest,
+      c.in_default-add_part.ensures.sized,
       w ∙ inv.2,
       arguments ∙ inv.3,
       c.match-part.auto.below ∙ inv.4,
@@ -235,7 +232,7 @@ pub build-returns-clause-pieces : goal.build-returns-clause-pieces
 build-returns-clause-pieces t c =
     let ms = macros c.args.context in
     let file = file_of c.args.context in
-    let line = c.args.call.line in
+    let line = c.args.call.name.line in
     let e = expander c.args.context c.args.below.now in
     let args = arguments_of c.args.context c.args.level.now in
     let d = c.in-Some.definition in

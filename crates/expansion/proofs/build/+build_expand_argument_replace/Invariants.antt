@@ -32,7 +32,7 @@ invariant-build-loop-token l =
     let ps = option_map (λ v. spellings (view_tokens v)) l.initial.definition.parameters in
     let list = view_tokens l.initial.definition.list in
     let args = arguments_of l.initial.context l.initial.level in
-    (built e l.initial.call.line ps args false l.initial.left list ≡ (giving (pieces_of (macros l.initial.context) (held l.level.pieces)) l.left then building.from e l.initial.call.line ps args l.joins (view_tokens l.rest))) × Sized (held l.level.pieces) × (l.level.w ≡ l.initial.level.w) × (l.level.arguments ≡ l.initial.level.arguments) × (length l.below ≡ length l.initial.below)
+    (built e l.initial.call.name.line ps args false l.initial.left list ≡ (giving (pieces_of (macros l.initial.context) (held l.level.pieces)) l.left then building.from e l.initial.call.name.line ps args l.joins (view_tokens l.rest))) × Sized (held l.level.pieces) × (l.level.w ≡ l.initial.level.w) × (l.level.arguments ≡ l.initial.level.arguments) × (length l.below ≡ length l.initial.below)
 
 abbrev pub decreases-build-loop-token : goal.decreases-build-loop-token
 decreases-build-loop-token l = length (view_tokens l.rest)

@@ -1,67 +1,45 @@
-use Rattle.std.proofs.Common.{◌||◌, sym, ap, ◌∙◌, arith}
-use Rattle.std.proofs.lemmas.Bool.{false≢true, true≢false}
+use Rattle.std.proofs.Common.{rules, ◌∙◌}
+use Rattle.std.proofs.lemmas.Bool.{false≢true}
 use Rattle.item.proofs.Held.{fits}
-use Rattle.item.specs.Tables.{held}
-use Rattle.operators.proofs.Turned.{start, ended, low, room, piece_turn, operator_last, room-beside, operator_fault, operator_turn}
+use Rattle.item.specs.Tables.{held, referred_to}
+use Rattle.operators.proofs.Turned.{start, ended, nothing_turn, plain_fits, plain_turn, operator_last, nothing_right, right_fits, operator_fault, operator_turn}
 use Rattle.operators.proofs.join.join_all.Goals as goal
 
 pub loop-part-init : goal.loop-part-init
-loop-part-init c = start c.args.line (held c.args.pieces.now) _ (fits c.args.pieces.now) c.clear.ensures
+loop-part-init c = search (rules, start, fits)
 
-pub overflow_add-at : goal.overflow_add-at
-overflow_add-at c =
-    omega (arith, low _ _ c.loop-part.at _ (fits c.args.pieces.now) c.view-parts.ensures c.in-Some.ensures)
+pub returns-in_err-push-in-Plain : goal.returns-in_err-push-in-Plain
+returns-in_err-push-in-Plain c =
+    let room = plain_fits c.loop-part.invariant (referred_to c.in-Some.part) c.in-Some.ensures.steps c.in-Plain.hides in
+    absurd (false≢true (c.in_err-push-in-Plain.ensures.room ∙ room))
 
-pub returns-in_default-get : goal.returns-in_default-get
-returns-in_default-get c =
-    record {
-      whole = λ ms left e. operator_last c.args.line (held c.args.pieces.now) c.loop-part.operand (held c.loop-part.joined) c.loop-part.at c.loop-part.invariant _ c.view-parts.ensures _ c.in-Some.ensures c.if-is_join.ensures c.in_default-get.ensures ms left;
-      failed = λ ms left e. absurd (true≢false e);
-    }
+pub loop-part-preserved-in-Plain : goal.loop-part-preserved-in-Plain
+loop-part-preserved-in-Plain c =
+    plain_turn c.loop-part.invariant (referred_to c.in-Some.part) c.in-Some.ensures.steps c.in-Plain.hides (held c.push.new.self) c.in-Plain.is c.in_ok-push-in-Plain.ensures.tokens
+
+pub loop-part-preserved-in-Nothing : goal.loop-part-preserved-in-Nothing
+loop-part-preserved-in-Nothing c =
+    nothing_turn c.loop-part.invariant (referred_to c.in-Some.part) c.in-Some.ensures.steps c.in-Nothing.is
+
+pub returns-in_default-next-clause-whole : goal.returns-in_default-next-clause-whole
+returns-in_default-next-clause-whole c ms left e =
+    operator_last c.loop-part.invariant (referred_to c.in-Some.part) c.in-Some.ensures.steps c.in-Join.is c.in_default-next.ensures.steps.0 ms left
 
 pub join_next-requires : goal.join_next-requires
 join_next-requires c =
-    room-beside c.args.line (held c.args.pieces.now) c.loop-part.operand (held c.loop-part.joined) c.loop-part.at c.loop-part.invariant _ c.view-parts.ensures _ c.in-Some.ensures c.if-is_join.ensures _ c.in-Some-get.ensures
+    right_fits c.loop-part.invariant (referred_to c.in-Some.part) c.in-Some.ensures.steps c.in-Join.is (referred_to c.in-Some-next.next) c.in-Some-next.ensures.steps (referred_to c.in-Some-operand_of.right) c.in-Some-operand_of.ensures
 
-pub returns-then-not-join_next : goal.returns-then-not-join_next
-returns-then-not-join_next c =
-    record {
-      whole = λ ms left e. absurd (false≢true e);
-      failed = λ ms left e. operator_fault c.args.line (held c.args.pieces.now) c.loop-part.operand (held c.loop-part.joined) c.loop-part.at c.loop-part.invariant _ c.view-parts.ensures _ c.in-Some.ensures c.if-is_join.ensures _ c.in-Some-get.ensures _ _ c.join_next.ensures c.if-not-join_next.true ms left;
-    }
+pub returns-in_err-join_next-in-Join-clause-failed : goal.returns-in_err-join_next-in-Join-clause-failed
+returns-in_err-join_next-in-Join-clause-failed c ms left e =
+    operator_fault c.loop-part.invariant (referred_to c.in-Some.part) c.in-Some.ensures.steps c.in-Join.is (referred_to c.in-Some-next.next) c.in-Some-next.ensures.steps (referred_to c.in-Some-operand_of.right) c.in-Some-operand_of.ensures c.in_err-join_next-in-Join.ensures.ending ms left
 
-pub overflow_add-at-then-is_join : goal.overflow_add-at-then-is_join
-overflow_add-at-then-is_join c =
-    omega (arith, low _ _ c.loop-part.at _ (fits c.args.pieces.now) c.view-parts.ensures c.in-Some.ensures)
-
-pub loop-part-smaller-then-is_join : goal.loop-part-smaller-then-is_join
-loop-part-smaller-then-is_join c =
-    omega (arith, low _ _ c.loop-part.at _ (fits c.args.pieces.now) c.view-parts.ensures c.in-Some.ensures)
-
-pub loop-part-preserved-then-is_join : goal.loop-part-preserved-then-is_join
-loop-part-preserved-then-is_join c =
-    let flag = c.either-operand.ensures ∙ ap (λ v. c.loop-part.operand || v) c.is_token.ensures in
-    operator_turn c.args.line (held c.args.pieces.now) c.loop-part.operand (held c.loop-part.joined) c.loop-part.at c.loop-part.invariant _ c.view-parts.ensures _ c.in-Some.ensures c.if-is_join.ensures _ c.in-Some-get.ensures _ _ c.join_next.ensures _ c.if-not-join_next.false flag
-
-pub push_piece-requires : goal.push_piece-requires
-push_piece-requires c =
-    room c.args.line (held c.args.pieces.now) c.loop-part.operand (held c.loop-part.joined) c.loop-part.at c.loop-part.invariant _ c.view-parts.ensures _ c.in-Some.ensures
-
-pub overflow_add-at-else-is_join : goal.overflow_add-at-else-is_join
-overflow_add-at-else-is_join c =
-    omega (arith, low _ _ c.loop-part.at _ (fits c.args.pieces.now) c.view-parts.ensures c.in-Some.ensures)
-
-pub loop-part-smaller : goal.loop-part-smaller
-loop-part-smaller c =
-    omega (arith, low _ _ c.loop-part.at _ (fits c.args.pieces.now) c.view-parts.ensures c.in-Some.ensures)
+pub loop-part-preserved-in-Some-operand_of : goal.loop-part-preserved-in-Some-operand_of
+loop-part-preserved-in-Some-operand_of c =
+    operator_turn c.loop-part.invariant (referred_to c.in-Some.part) c.in-Some.ensures.steps c.in-Join.is (referred_to c.in-Some-next.next) c.in-Some-next.ensures.steps (referred_to c.in-Some-operand_of.right) c.in-Some-operand_of.ensures (held c.join_next.new.joined) c.in_ok-join_next-in-Join.ensures.ending
 
 pub loop-part-preserved : goal.loop-part-preserved
 loop-part-preserved c =
-    piece_turn c.args.line (held c.args.pieces.now) c.loop-part.operand (held c.loop-part.joined) c.loop-part.at c.loop-part.invariant _ c.view-parts.ensures _ c.in-Some.ensures _ _ (sym c.if-is_join.ensures) c.is_token-operand.ensures c.push_piece.ensures
+    nothing_right c.loop-part.invariant (referred_to c.in-Some.part) c.in-Some.ensures.steps c.in-Join.is (referred_to c.in-Some-next.next) c.in-Some-next.ensures.steps c.in_default-operand_of.ensures
 
-pub returns : goal.returns
-returns c =
-    record {
-      whole = λ ms left e. ended c.args.line (held c.args.pieces.now) c.loop-part.operand (held c.loop-part.joined) c.loop-part.at c.loop-part.invariant _ c.view-parts.ensures c.in_default.ensures ms left;
-      failed = λ ms left e. absurd (true≢false e);
-    }
+pub returns-clause-whole : goal.returns-clause-whole
+returns-clause-whole c ms left e = ended c.loop-part.invariant c.in_default.ensures.steps.0 ms left

@@ -1,25 +1,13 @@
-use Rattle.std.proofs.Common.{ap, ◌∙◌}
-use Rattle.std.proofs.lemmas.Bool.{false≢true}
-use Rattle.lexer.specs.Cutting.{one_token}
-use Rattle.operators.specs.Spellings.{spelt}
-use Rattle.operators.proofs.Spelt.{left_long, right_long, added_both}
+use Rattle.std.proofs.Common.{◌++◌, sym, ◌∙◌, arith}
+use Rattle.std.proofs.lemmas.Bool.Decides.{nat_tests}
+use Rattle.std.proofs.lemmas.Grind.{common_steps}
+use Rattle.operators.proofs.Spelt.{no_token}
 use Rattle.operators.proofs.join.spell.Goals as goal
 
-pub returns-then-not-add : goal.returns-then-not-add
-returns-then-not-add c =
-    record {
-      kind = left_long (spelt c.clear.new.self) c.args.left.now c.args.right.now c.clear.ensures _ c.add.ensures.room c.if-not-add.true;
-      spelt = λ e. absurd (false≢true e);
-    }
+pub returns-in_err-ok-clause-kind : goal.returns-in_err-ok-clause-kind
+returns-in_err-ok-clause-kind c =
+    let long = no_token (c.args.left.spelling.now ++ c.args.right.spelling.now) (grind (arith, common_steps, nat_tests)) in c.from_residual.ensures ∙ sym long
 
-pub returns-then-not-add-2 : goal.returns-then-not-add-2
-returns-then-not-add-2 c =
-    record {
-      kind = right_long (spelt c.clear.new.self) c.args.left.now c.args.right.now c.clear.ensures _ _ _ c.add.ensures.added c.if-not-add.false c.add-2.ensures.room c.if-not-add-2.true;
-      spelt = λ e. absurd (false≢true e);
-    }
-
-pub returns : goal.returns
-returns c =
-    let whole = added_both (spelt c.clear.new.self) c.args.left.now c.args.right.now c.clear.ensures _ _ _ _ c.add.ensures.added c.if-not-add.false c.add-2.ensures.added c.if-not-add-2.false in
-    record { kind = c.one_token.ensures ∙ ap one_token (c.bytes.ensures ∙ whole); spelt = λ e. whole }
+pub returns-in_err-ok-2-clause-kind : goal.returns-in_err-ok-2-clause-kind
+returns-in_err-ok-2-clause-kind c =
+    let long = no_token (c.args.left.spelling.now ++ c.args.right.spelling.now) (grind (arith, common_steps, nat_tests)) in c.from_residual-in_err-ok-2.ensures ∙ sym long

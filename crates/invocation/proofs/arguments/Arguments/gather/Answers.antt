@@ -1,4 +1,5 @@
 use Rattle.std.proofs.Common.{◌∙◌, arith}
+use Rattle.std.proofs.lemmas.Result.{err_from_is_err_and}
 use Rattle.item.specs.Tables.{held}
 use Rattle.invocation.specs.Fronts.{waiting}
 use Rattle.invocation.proofs.Held.{few}
@@ -12,13 +13,14 @@ returns-in-Some g c =
     let turn = turn_ended (waiting c.args.w.now) (g.R.Run.rest c.args.run.now) (held c.loop-ended.self.inside) c.loop-ended.depth (waiting c.loop-ended.w) _ _ _ front.same.0 front.answer inv.0 inv.1 c.in-Some.ended c.in-Some.ensures in
     record { gathered = turn.0; dropped = turn.1; same = front.same.1 ∙ inv.2 }
 
-pub returns-then-not-move_front : goal.returns-then-not-move_front
-returns-then-not-move_front g c =
+pub returns-in_err-move_front : goal.returns-in_err-move_front
+returns-in_err-move_front g c =
+    let p = err_from_is_err_and c.from_residual.result c.from_residual.ensures.1 in
     let inv = c.loop-ended.invariant in
     let front = c.front_bracket-bracket.ensures in
-    let moved = c.if-not-move_front.ensures in
+    let moved = c.in_err-move_front.ensures in
     let turn = turn_full (waiting c.args.w.now) (g.R.Run.rest c.args.run.now) (held c.loop-ended.self.inside) c.loop-ended.depth (waiting c.loop-ended.w) _ _ _ front.same.0 front.answer inv.0 inv.1 c.in_default.ensures _ _ _ moved.room moved.moved moved.dropped in
-    record { gathered = turn.0; dropped = turn.1; same = moved.same ∙ front.same.1 ∙ inv.2 }
+    rw (p.1, p.2) (record { gathered = turn.0; dropped = turn.1; same = moved.same ∙ front.same.1 ∙ inv.2 })
 
 pub depth_behind-depth-requires : goal.depth_behind-depth-requires
 depth_behind-depth-requires g c = omega (arith, few c.loop-ended.self.inside)
@@ -27,7 +29,7 @@ pub loop-ended-preserved : goal.loop-ended-preserved
 loop-ended-preserved g c =
     let inv = c.loop-ended.invariant in
     let front = c.front_bracket-bracket.ensures in
-    let moved = c.if-not-move_front.ensures in
+    let moved = c.in_ok-move_front.ensures in
     let turn = turn_more (waiting c.args.w.now) (g.R.Run.rest c.args.run.now) (held c.loop-ended.self.inside) c.loop-ended.depth (waiting c.loop-ended.w) _ _ _ front.same.0 front.answer inv.0 inv.1 c.in_default.ensures _ _ _ _ moved.moved moved.dropped c.depth_behind-depth.ensures inv.3 in
     (turn.0, turn.1, moved.same ∙ front.same.1 ∙ inv.2, turn.2)
 
@@ -35,4 +37,4 @@ pub loop-ended-smaller : goal.loop-ended-smaller
 loop-ended-smaller g c =
     let inv = c.loop-ended.invariant in
     let front = c.front_bracket-bracket.ensures in
-    turn_less (waiting c.args.w.now) (g.R.Run.rest c.args.run.now) (held c.loop-ended.self.inside) c.loop-ended.depth (waiting c.loop-ended.w) _ _ _ front.same.0 front.answer inv.0 inv.1 c.in_default.ensures (held c.move_front.new.to) _ _ c.if-not-move_front.ensures.dropped
+    turn_less (waiting c.args.w.now) (g.R.Run.rest c.args.run.now) (held c.loop-ended.self.inside) c.loop-ended.depth (waiting c.loop-ended.w) _ _ _ front.same.0 front.answer inv.0 inv.1 c.in_default.ensures (held c.move_front.new.to) _ _ c.in_ok-move_front.ensures.dropped

@@ -1,34 +1,15 @@
-use Rattle.std.proofs.Common.{length, vec_items, ap, ◌∙◌, arith}
-use Rattle.std.proofs.lemmas.List.{length_push}
-use Rattle.token.specs.Tables.{table_tokens}
+use Rattle.std.proofs.Common.{◌∙◌, rules}
 use Rattle.item.specs.Tables.{referred_to}
-use Rattle.item.specs.Tagged.{beside}
 use Rattle.item.proofs.Held.{room, held-push}
 use Rattle.item.proofs.table.TagTable.push.Goals as goal
 
-pub returns-then-not-push : goal.returns-then-not-push
-returns-then-not-push g c =
-    let was = c.if-not-push.ensures in
-    record {
-      room = was.room ∙ room c.args.self.now (referred_to c.args.item);
-      tokens = ap (λ ts. beside ts (vec_items c.args.self.now.tags)) was.tokens;
-    }
+pub returns-in_err-push-clause-room : goal.returns-in_err-push-clause-room
+returns-in_err-push-clause-room g c =
+    let more = room c.args.self.now (referred_to c.args.item) in search rules
 
-pub invariant_of-self-2 : goal.invariant_of-self-2
-invariant_of-self-2 g c =
-    let was = c.if-not-push.ensures in
-    let count = ap length was.tokens ∙ length_push (table_tokens c.args.self.now.tokens) (referred_to c.args.item).token in
-    record {
-      even = omega arith;
-      room = omega arith;
-      most_tokens = omega arith;
-      most_bytes = omega arith;
-    }
+pub returns-clause-room : goal.returns-clause-room
+returns-clause-room g c = c.in_ok-push.ensures.room ∙ room c.args.self.now (referred_to c.args.item)
 
-pub returns : goal.returns
-returns g c =
-    let was = c.if-not-push.ensures in
-    record {
-      room = was.room ∙ room c.args.self.now (referred_to c.args.item);
-      tokens = held-push c.args.self.now (referred_to c.args.item) _ _ was.tokens c.push_reserved.ensures.items;
-    }
+pub returns-clause-tokens : goal.returns-clause-tokens
+returns-clause-tokens g c =
+    held-push c.args.self.now (referred_to c.args.item) _ _ c.in_ok-push.ensures.tokens c.push_reserved.ensures.items

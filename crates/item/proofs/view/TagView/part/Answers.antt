@@ -1,13 +1,6 @@
 use Rattle.token.specs.Views.{view_tokens}
-use Rattle.item.proofs.Beside.{length_part, beside-part}
+use Rattle.item.proofs.Beside.{beside-part}
 use Rattle.item.proofs.view.TagView.part.Goals as goal
-
-pub invariant_of-result : goal.invariant_of-result
-invariant_of-result g c =
-    let view = c.args.self.now in
-    record {
-      even = length_part (view_tokens view.tokens) _ view.tags.now _ c.args.start c.args.len c.part.ensures c.slice_of.ensures view.even;
-    }
 
 pub returns : goal.returns
 returns g c =

@@ -15,7 +15,7 @@ line_is c = ap cut_line (sym ((λ i. placed (c.bytes.ensures.value i) (c.lines.e
 pub fill-requires : goal.fill-requires
 fill-requires c =
     record {
-      empty = c.clear.ensures.tokens;
+      empty = c.clear.ensures;
       beside = ap length c.lines.ensures.value ∙ length-map _ _ ∙ sym (ap length c.bytes.ensures.value ∙ length-map _ _);
       short = c.bytes.ensures.bound;
     }
@@ -23,7 +23,7 @@ fill-requires c =
 pub returns-in-Err : goal.returns-in-Err
 returns-in-Err c =
     record {
-      tokens = (line_is (goal.at.returns-in-Err c).After-lines ∙ c.in-Err.ensures, c.clear-in-Err.ensures.tokens);
+      tokens = (line_is (goal.at.returns-in-Err c).After-lines ∙ c.in-Err.ensures, c.clear-in-Err.ensures);
       lexical = lexical;
     }
 

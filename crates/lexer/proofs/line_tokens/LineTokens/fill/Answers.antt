@@ -1,10 +1,12 @@
 use Rattle.std.proofs.Common.{◌≡◌, ◌+◌, ◌-◌, ◌<◌, ◌≤◌, length, get_or, take, drop, Ok, sym, ap, ◌∙◌, subst, arith, length-drop}
 use Rattle.std.proofs.ResultArms.{chosen}
 use Rattle.std.proofs.lemmas.List.{length-take-le}
+use Rattle.std.proofs.lemmas.Bool.{and_from, lt-ltb, le-leb}
 use Rattle.std.proofs.lemmas.Result.{err_from_is_err_and}
+use Rattle.token.specs.Tables.{table_tokens}
+use Rattle.token.specs.Views.{spelled}
 use Rattle.lexer.specs.Cutting.{scan}
 use Rattle.lexer.specs.Scanning.{measured}
-use Rattle.lexer.proofs.Rooms.{room_for}
 use Rattle.lexer.proofs.Sofar.{Sofar, measured-rest, at_end_lem, after-white, at_fault, bounds, after-token}
 use Rattle.lexer.proofs.line_tokens.LineTokens.fill.Goals as goal
 use Rattle.lexer.proofs.line_tokens.LineTokens.fill.Goals.{In_ok-kind}
@@ -54,7 +56,9 @@ loop-at-preserved c =
     let fits = fits_at in_continue in
     let clipped : (at + len) - at ≡ len = omega arith in
     let size = length-take-le ((at + len) - at) (drop at bytes) (omega (arith, length-drop at bytes)) in
-    let room = room_for self.table at (length (take ((at + len) - at) (drop at bytes))) self.tokens_room self.bytes_room inv.few inv.short (omega arith) (omega (arith, c.requires.short)) in
+    let few : length (table_tokens self.table) < 4095 = omega (arith, inv.few, fits.0, fits.1, c.requires.short) in
+    let short : spelled (table_tokens self.table) + length (take ((at + len) - at) (drop at bytes)) ≤ 4095 = omega (arith, inv.short, fits.1, c.requires.short, size) in
+    let room = and_from _ _ (lt-ltb _ _ few) (le-leb _ _ short) in
     let pushed = chosen _ _ _ _ c.push-fits.ensures.tokens (c.push-fits.ensures.room ∙ room) in
     let spelling = ap (λ n. take n (drop at bytes)) clipped in
     subst (Sofar bytes lines (at + len) _) (sym pushed)

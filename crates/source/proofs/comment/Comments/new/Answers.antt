@@ -1,6 +1,5 @@
-use Rattle.std.proofs.Common.{refl}
 use Rattle.source.proofs.Pieces.{piece_by_piece}
 use Rattle.source.proofs.comment.Comments.new.Goals as goal
 
-pub returns : goal.returns
-returns g c = record { stream = refl; pieces = piece_by_piece }
+pub returns-clause-pieces : goal.returns-clause-pieces
+returns-clause-pieces g c = piece_by_piece

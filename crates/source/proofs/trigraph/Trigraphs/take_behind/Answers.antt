@@ -1,34 +1,25 @@
-use Rattle.source.specs.Lookahead.{ahead_left}
-use Rattle.source.proofs.Marks.{then_end, then_byte_end, replaced, kept}
+use Rattle.source.proofs.Streams.{put_one}
 use Rattle.source.proofs.trigraph.Trigraphs.take_behind.Goals as goal
 
-pub returns-in_default : goal.returns-in_default
-returns-in_default g c =
-    let left = ahead_left g.B.Source.rest in
+pub returns-in_default-clause-after : goal.returns-in_default-clause-after
+returns-in_default-clause-after g c =
     let end = c.in_default.ensures in
-    let k = then_end c.args.first (left c.args.self.now.below) (left c.next.new.self) _ end.answer end.after in
-    record { answer = k.answer; after = k.after }
+    rw (end.after, ← put_one end.answer end.after)
 
-pub returns-in_default-next : goal.returns-in_default-next
-returns-in_default-next g c =
-    let left = ahead_left g.B.Source.rest in
-    let second = c.in-Byte.ensures in
+pub returns-in_default-next-clause-after : goal.returns-in_default-next-clause-after
+returns-in_default-next-clause-after g c =
+    let second = c.in-Ok.ensures in
     let end = c.in_default-next.ensures in
-    let k = then_byte_end c.args.first (left c.args.self.now.below) (left c.next.new.self) _ second.answer second.after (left c.next-2.new.self) _ (left c.put_back.new.self) end.answer end.after c.put_back.ensures in
-    record { answer = k.answer; after = k.after }
+    rw (c.put_back.ensures, end.after, ← put_one second.answer second.after, ← put_one end.answer end.after)
 
-pub returns-in-Some : goal.returns-in-Some
-returns-in-Some g c =
-    let left = ahead_left g.B.Source.rest in
-    let second = c.in-Byte.ensures in
-    let third = c.in-Byte-next.ensures in
-    let k = replaced c.args.first (left c.args.self.now.below) (left c.next.new.self) _ second.answer second.after (left c.next-2.new.self) _ third.answer third.after _ c.in-Some.ensures in
-    record { answer = k.answer; after = k.after }
+pub returns-in-Some-clause-after : goal.returns-in-Some-clause-after
+returns-in-Some-clause-after g c =
+    let second = c.in-Ok.ensures in
+    let third = c.in-Ok-next.ensures in
+    rw (← put_one second.answer second.after, ← put_one third.answer third.after, ← c.in-Some.ensures)
 
-pub returns-in-None : goal.returns-in-None
-returns-in-None g c =
-    let left = ahead_left g.B.Source.rest in
-    let second = c.in-Byte.ensures in
-    let third = c.in-Byte-next.ensures in
-    let k = kept c.args.first (left c.args.self.now.below) (left c.next.new.self) _ second.answer second.after (left c.next-2.new.self) _ third.answer third.after (left c.put_back_two.new.self) c.in-None.ensures c.put_back_two.ensures in
-    record { answer = k.answer; after = k.after }
+pub returns-in-None-clause-after : goal.returns-in-None-clause-after
+returns-in-None-clause-after g c =
+    let second = c.in-Ok.ensures in
+    let third = c.in-Ok-next.ensures in
+    rw (c.put_back_two.ensures, ← put_one second.answer second.after, ← put_one third.answer third.after, ← c.in-None.ensures)

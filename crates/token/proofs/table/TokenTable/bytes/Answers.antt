@@ -3,4 +3,4 @@ use Rattle.token.proofs.Filled.{size}
 use Rattle.token.proofs.table.TokenTable.bytes.Goals as goal
 
 pub returns : goal.returns
-returns c = c.len.ensures ∙ sym (size c.args.self.now)
+returns g c = c.len.ensures ∙ sym (size c.args.self.now)

@@ -1,13 +1,12 @@
-use Rattle.std.proofs.Common.{◌≡◌, vec_items, vec_len, ap, ◌∙◌, arith, rules}
+use Rattle.std.proofs.Common.{◌≡◌, vec_items, vec_len, ap, ◌∙◌, arith}
 use Rattle.token.specs.Packing.{packed}
 use Rattle.token.proofs.Filled.{dense_pop, tokens-pop}
 use Rattle.token.proofs.table.TokenTable.pop.Goals as goal
 
 pub invariant_of-self : goal.invariant_of-self
-invariant_of-self c =
-    let was = c.in-Some.ensures in
-    let both = dense_pop c.args.self.now _ c.in-Some.record was.items in
-    let start : vec_len c.cut_off.new.text ≡ c.in-Some.record.start = omega arith in
+invariant_of-self g c =
+    let both = dense_pop c.args.self.now _ c.in-Some.record c.in-Some.ensures.items in
+    let start : vec_len c.truncate.new.self ≡ c.in-Some.record.spelling.start = omega arith in
     record {
       few = omega arith;
       short = omega arith;
@@ -17,8 +16,5 @@ invariant_of-self c =
     }
 
 pub returns-in-Some : goal.returns-in-Some
-returns-in-Some c =
-    record {
-      tokens = tokens-pop c.args.self.now _ c.in-Some.record c.in-Some.ensures.items _ c.cut_off.ensures.items;
-      limits = search rules;
-    }
+returns-in-Some g c =
+    tokens-pop c.args.self.now _ c.in-Some.record c.in-Some.ensures.items _ c.truncate.ensures.items
