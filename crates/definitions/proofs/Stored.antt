@@ -1,8 +1,10 @@
 -- What a store's fields say, and one more definition in it. Assumes nothing.
-use Rattle.std.proofs.Common.{◌≡◌, ℕ, ◌+◌, ◌<◌, ◌≤◌, Bool, true, false, cond, ◌&&◌, leb, List, [], ◌∷◌, ◌++◌, map, length, Some, None, vec_items, vec_len, Option, unwrap_or, sym, refl, ap, ◌∙◌, subst, arith, length-append}
+use Rattle.std.proofs.Common.{◌≡◌, ℕ, ◌+◌, ◌<◌, ◌≤◌, Bool, true, false, cond, ◌&&◌, leb, List, [], ◌∷◌, ◌++◌, map, length, get_or, Some, None, vec_items, vec_len, Option, unwrap_or, sym, refl, ap, ◌∙◌, subst, arith, length-append}
 use lib.ListN.{length-map}
 use Rattle.std.specs.Option.{option_map}
+use Rattle.std.specs.List.{slice_get}
 use Rattle.std.proofs.lemmas.Bool.{leb-true}
+use Rattle.std.proofs.lemmas.Option.{slice_get-map, slice_get-get_or}
 use Rattle.token.specs.declared.tokens.Tokens.{Tokens}
 use Rattle.token.specs.Tables.{table_tokens}
 use Rattle.token.specs.Tokens.{Token}
@@ -82,3 +84,9 @@ fit_store s m a b n k z p q r x y =
 pub store_fits : (s : Store) → fit (store_macros s) ≡ true
 store_fits s =
     within-fit (store_macros s) (omega (arith, count s, s.few), (omega (arith, s.listed, s.short), omega (arith, bytes s, held_bytes s.tokens, s.tokens.short)))
+
+-- the definition of an entry is the one in its slot
+pub entry_slot : (ts us : List Token) (es fs : List Entry) (i : ℕ) (d : Entry) (m : Macro) → us ≡ ts → fs ≡ es → i < length fs → m ≡ macro_at us (get_or fs i d) → Some m ≡ slice_get (map (macro_at ts) es) i
+entry_slot ts us es fs i d m e f h s =
+    let here : Some m ≡ slice_get (map (macro_at us) fs) i = ap Some s ∙ sym (slice_get-map (macro_at us) fs i ∙ ap (option_map (macro_at us)) (slice_get-get_or fs i d h)) in
+    here ∙ (λ j. slice_get (map (macro_at (e j)) (f j)) i)

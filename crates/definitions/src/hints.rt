@@ -4,6 +4,7 @@ ghost use Rattle.definitions.specs.Hashes.{mixed, cell_of};
 ghost use Rattle.definitions.specs.Hints.{cell, hinted};
 ghost use Rattle.definitions.specs.Stores.{store_names};
 
+use crate::block::macro_at;
 use crate::store::Store;
 
 const CELLS: usize = 1024;
@@ -65,10 +66,9 @@ impl Hints {
         ensures { hinted self.new.cells (store_names store.now) ≡ true }
     {
         self.clear();
-        for slot in 0..store.len() {
-            if let Some(stored) = store.get(slot) {
-                self.put(stored.name, slot);
-            }
+        let tokens = store.tokens.tokens();
+        for (slot, entry) in store.entries.iter().enumerate() {
+            self.put(macro_at(tokens, *entry).name, slot);
         }
     }
 }

@@ -1,4 +1,4 @@
-// Definitions in a table of tokens.
+// Definitions in a table of tokens, so that nothing allocates after making.
 ghost use Rattle.std.specs.Prelude.{◌≡◌, ◌≤◌, true, map, length, vec_len, vec_capacity};
 ghost use Rattle.token.specs.Tables.{table_tokens};
 ghost use Rattle.definitions.specs.Blocks.{macro_at, placed};

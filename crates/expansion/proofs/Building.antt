@@ -1,6 +1,11 @@
 -- The parts of a list, one after the other. Assumes nothing.
-use Rattle.std.proofs.Common.{◌≡◌, ℕ, zero, suc, ◌+◌, ◌-◌, ◌≤◌, Bool, true, false, cond, ◌||◌, ltb, List, [], ◌∷◌, ◌++◌, length, drop, is_some, Some, None, Option, unwrap_or, sym, refl, ap, ◌∙◌, subst, inl, inr, append_assoc, append-nil, arith, length-append}
+use Rattle.std.proofs.Common.{◌≡◌, ℕ, zero, suc, ◌+◌, ◌-◌, Bool, true, false, cond, ◌||◌, ltb, List, [], ◌∷◌, ◌++◌, length, drop, ◌==◌, is_some, Some, None, Option, unwrap_or, sym, refl, ap, ◌∙◌, subst, inl, inr, append_assoc, append-nil, arith, length-append}
 use Rattle.std.specs.List.{slice_get}
+use Rattle.std.specs.Iterator.{YieldsFirstBy}
+use Rattle.token.specs.declared.TokenRef.{TokenRef}
+use Rattle.token.specs.declared.tokens.Tokens.{Tokens}
+use Rattle.token.specs.Tables.{referred}
+use Rattle.token.specs.Views.{view_tokens}
 use Rattle.std.specs.Option.{option_map}
 use Rattle.std.specs.Str.{bytes_eq}
 use Rattle.std.proofs.lemmas.List.{drop-drop}
@@ -223,14 +228,6 @@ width_skip (Literal k) = omega arith
 width_skip (Raw k) = omega arith
 width_skip (Expanded k) = omega arith
 
--- a part is at least one token
-pub width_some : (p : Part) → 1 ≤ width p
-width_some Token = omega arith
-width_some Join = omega arith
-width_some (Literal k) = omega arith
-width_some (Raw k) = omega arith
-width_some (Expanded k) = omega arith
-
 first_of : (list : List PlainToken) (t : PlainToken) → Some t ≡ slice_get list 0 → list ≡ t ∷ drop 1 list
 first_of [] t h = cc h
 first_of (x ∷ list) t h = let same : t ≡ x = cc in ap (λ z. z ∷ list) (sym same)
@@ -287,3 +284,23 @@ module _ (e : Expander) (line : ℕ) (ps : Option (List (List ℕ))) (args : Lis
         pub built_fault : (x y : ℕ) → (added_to line args is t p qs m).ending ≡ fault x y → (limited_pieces line b).ending ≡ fault x y
         built_fault x y h =
             ap (λ v. (limited_pieces line v).ending) ready_turn ∙ fault_within line (giving qs m then (λ n. given line args is t n p)) (from (is_join_part p) (drop (width p) rest)) x y h
+
+-- what is left behind a part
+pub behind_one : (p : Part) (list rest : List PlainToken) (t : PlainToken) → list ≡ t ∷ rest → (width p == 2) ≡ false → rest ≡ drop (width p) list
+behind_one Token list rest t e h = ap (drop 1) (sym e)
+behind_one Join list rest t e h = ap (drop 1) (sym e)
+behind_one (Literal k) list rest t e h = cc
+behind_one (Raw k) list rest t e h = ap (drop 1) (sym e)
+behind_one (Expanded k) list rest t e h = ap (drop 1) (sym e)
+
+pub behind_two : (p : Part) (list rest : List PlainToken) (t : PlainToken) → list ≡ t ∷ rest → (width p == 2) ≡ true → drop 1 rest ≡ drop (width p) list
+behind_two Token list rest t e h = cc
+behind_two Join list rest t e h = cc
+behind_two (Literal k) list rest t e h = ap (drop 2) (sym e)
+behind_two (Raw k) list rest t e h = cc
+behind_two (Expanded k) list rest t e h = cc
+
+-- a call of `next` takes one token, or none is left
+pub skipped : (o : Option TokenRef) (s t : Tokens) → YieldsFirstBy referred view_tokens s o t → view_tokens t ≡ drop 1 (view_tokens s)
+skipped None s t h = h.1 ∙ ap (drop 1) (sym h.0)
+skipped (Some x) s t h = ap (drop 1) (sym h)

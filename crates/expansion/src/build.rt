@@ -63,10 +63,10 @@ fn build(
     let mut left = left;
     let mut rest = definition.list;
     let mut joins = false;
-    while let Some(token) = rest.get(0) {
+    while let Some(token) = rest.next() {
         let part = part_of(
             token,
-            rest.get(1),
+            rest.get(0),
             definition.parameters,
             level.arguments.len(),
             joins,
@@ -93,7 +93,9 @@ fn build(
             return Err(kind.at(call.name.line));
         }
         joins = part.is_join();
-        rest = rest.behind(part.width());
+        if part.is_literal() {
+            rest.next();
+        }
     }
     Ok(left)
 }

@@ -115,7 +115,7 @@ fn line_of<R: Run>(handed: Handed, w: &TagTable<HideSet>, run: &mut R) -> u32
     }
 }
 
-// The line of the next token, which is there.
+// The line of the next token, which is there: the 0 stands for what cannot happen.
 fn front_line<R: Run>(w: &TagTable<HideSet>, run: &mut R) -> u32
     ensures same { R.Run.end run.new ≡ R.Run.end run.old }
 {

@@ -4,8 +4,8 @@ use item::{HideSet, TagTable};
 use operators::{Role, Spelling};
 use std::alloc::{AllocError, Global};
 
-// W, the arguments of the macro at work, its result before joining and behind it, an argument that is being expanded,
-// and a spelling that is being made.
+// W, the tokens that wait to be read again; the arguments of a macro; its result before joining and behind it; an argument
+// that is being expanded; and a spelling that is being made.
 #[derive(Drop)]
 pub(crate) struct Level {
     pub(crate) w: TagTable<HideSet>,

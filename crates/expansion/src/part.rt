@@ -1,5 +1,5 @@
 // What a token of a replacement list becomes.
-ghost use Rattle.std.specs.Prelude.{◌≡◌, map};
+ghost use Rattle.std.specs.Prelude.{◌≡◌, map, ◌==◌};
 ghost use Rattle.std.specs.Option.{option_map};
 ghost use Rattle.token.specs.Tables.{referred};
 ghost use Rattle.token.specs.Views.{view_tokens};
@@ -74,13 +74,10 @@ impl Part {
         matches!(self, Part::Join)
     }
 
-    // How many tokens of the list it is.
-    pub(crate) fn width(self) -> usize
-        ensures { result ≡ width self }
+    // Whether it is # with the token behind it: two tokens of the list, where any other part is one.
+    pub(crate) fn is_literal(self) -> bool
+        ensures { result ≡ (width self == 2) }
     {
-        match self {
-            Part::Literal(_) => 2,
-            _ => 1,
-        }
+        matches!(self, Part::Literal(_))
     }
 }

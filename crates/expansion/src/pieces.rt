@@ -1,4 +1,4 @@
-// What stands in a result before joining is put down here.
+// The pieces of a result before joining.
 ghost use Rattle.std.specs.Prelude.{◌≡◌, ℕ, true, List, ◌++◌, is_ok, MatchResult, OnOk};
 ghost use Rattle.source.specs.declared.Ending.TheVariants.{Fails};
 ghost use Rattle.token.specs.Tables.{referred};

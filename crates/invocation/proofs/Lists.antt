@@ -76,3 +76,15 @@ nth_drop (x ∷ xs) (suc n) zero h = absurd (omega arith)
 nth_drop (x ∷ xs) (suc n) (suc i) h =
     let same : suc i - suc n ≡ i - n = omega arith in
     ap (slice_get (drop n xs)) same ∙ nth_drop xs n i (omega arith)
+
+-- a list from a place on that has a first
+pub first_there : {A : Type 0} (xs : List A) (i : ℕ) (x : A) (ys : List A) → drop i xs ≡ x ∷ ys → (Some x ≡ slice_get xs i) × (suc i ≤ length xs) × (ys ≡ drop (suc i) xs)
+first_there [] zero x ys e = let z : ◌≡◌ {A = ℕ} 0 1 = cc in absurd (omega arith)
+first_there [] (suc i) x ys e = let z : ◌≡◌ {A = ℕ} 0 1 = cc in absurd (omega arith)
+first_there (z ∷ xs) zero x ys e = (cc, omega arith, cc)
+first_there (z ∷ xs) (suc i) x ys e =
+    let h = first_there xs i x ys e in
+    (h.0, omega arith, h.2)
+
+pub none_left : {A : Type 0} (xs : List A) (i : ℕ) → drop i xs ≡ [] → length xs ≤ i
+none_left xs i e = omega (arith, length-drop i xs, ap length e)

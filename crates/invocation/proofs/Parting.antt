@@ -33,10 +33,15 @@ abbrev pub Parts : List (Tagged HideSet) → ℕ → List Extent → ℕ → ℕ
 Parts xs most spans start left depth at =
     (ms : List Macro) → map (part_of ms xs) spans ++ onto_all (items_of ms (take (at - start) (drop start xs))) (parted left depth (items_of ms (drop at xs))) ≡ parted most 0 (items_of ms xs)
 
+-- before the first token nothing is parted
+pub parts_first : (xs : List (Tagged HideSet)) (most at : ℕ) (spans : List Extent) → spans ≡ [] → at ≡ 0 → Parts xs most spans 0 most 0 at
+parts_first xs most at spans e f ms =
+    (λ j. map (part_of ms xs) (e j) ++ onto_all (items_of ms (take (f j - 0) (drop 0 xs))) (parted most 0 (items_of ms (drop (f j) xs))))
+
 -- the same by other names
-pub parts_same : (xs : List (Tagged HideSet)) (most at : ℕ) (spans spans' : List Extent) (start start' left left' depth depth' : ℕ) → spans' ≡ spans → start' ≡ start → left' ≡ left → depth' ≡ depth → Parts xs most spans start left depth at → Parts xs most spans' start' left' depth' at
-parts_same xs most at spans spans' start start' left left' depth depth' e f g d h ms =
-    (λ j. map (part_of ms xs) (e j) ++ onto_all (items_of ms (take (at - f j) (drop (f j) xs))) (parted (g j) (d j) (items_of ms (drop at xs)))) ∙ h ms
+pub parts_same : (xs : List (Tagged HideSet)) (most : ℕ) (spans : List Extent) (start start' left depth depth' at at' : ℕ) → start' ≡ start → depth' ≡ depth → at' ≡ at → Parts xs most spans start left depth at → Parts xs most spans start' left depth' at'
+parts_same xs most spans start start' left depth depth' at at' e f g h ms =
+    (λ j. map (part_of ms xs) spans ++ onto_all (items_of ms (take (g j - e j) (drop (e j) xs))) (parted left (f j) (items_of ms (drop (g j) xs)))) ∙ h ms
 
 -- what a turn does by the answers to the tests
 abbrev chosen : Bool → ℕ → ℕ → Item → List Item → List (List Item)

@@ -13,7 +13,7 @@ const MOST_ARGUMENTS: usize = 1025;
 
 const NO_TOKENS: Extent = Extent { start: 0, len: 0 };
 
-// At most 1,024 tokens, so at most 1,025 arguments.
+// At most 1,024 tokens, so at most 1,025 arguments: extents of one table, so that nothing allocates after making.
 #[derive(Drop)]
 pub struct Arguments {
     pub(crate) inside: TagTable<HideSet>,

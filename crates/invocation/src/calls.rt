@@ -45,15 +45,13 @@ pub(crate) fn part_at_commas(inside: TagView<'_, HideSet>, most: usize, extents:
     let mut left = most;
     let mut start = 0;
     let mut depth = 0;
-    for at in 0..inside.len() {
-        if let Some(item) = inside.get(at) {
-            if is_parting(item, depth, left) {
-                extents.push_reserved(between(start, at));
-                start = at + 1;
-                left -= 1;
-            } else {
-                depth = depth_behind(depth, bracket_of(item));
-            }
+    for (at, item) in inside.enumerate() {
+        if is_parting(item, depth, left) {
+            extents.push_reserved(between(start, at));
+            start = at + 1;
+            left -= 1;
+        } else {
+            depth = depth_behind(depth, bracket_of(item));
         }
     }
     extents.push_reserved(between(start, inside.len()));

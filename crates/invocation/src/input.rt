@@ -1,4 +1,5 @@
-// The token that comes next: the first of W, or else the first of the run. W stands in a table with its first token last.
+// The token that comes next: the first of W, the tokens that wait to be read again, or else the first of the run. W stands
+// in a table with its first token last.
 ghost use Rattle.std.specs.Prelude.{◌≡◌, ◌++◌, length, take, is_ok, if◌then◌else◌};
 ghost use Rattle.std.specs.List.{slice_get};
 ghost use Rattle.std.specs.Option.{option_map};

@@ -1,4 +1,4 @@
-// An argument as a run.
+// An argument as a run: its tokens have hide sets, which those of a `TokenRun` have not yet.
 ghost use Rattle.std.specs.List.{slice_get};
 ghost use Rattle.source.specs.declared.Ending.TheVariants.{Whole};
 ghost use Rattle.item.specs.Tables.{shown};

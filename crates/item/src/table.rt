@@ -1,4 +1,4 @@
-// A table of tokens with something beside each.
+// A table of tokens with something beside each. The tags stand apart, so that the tokens are a `TokenTable`.
 ghost use Rattle.std.specs.Prelude.{◌≡◌, ◌≤◌, length, vec_len, vec_capacity};
 ghost use Rattle.token.specs.Tables.{table_tokens};
 

@@ -14,6 +14,7 @@ pub struct TagView<'a, T> {
     ghost even: { length tags.now ≡ length (view_tokens tokens) },
 }
 
+// By hand: Rattle derives no `Clone` of a generic struct with a ghost field.
 impl<'a, T> Clone for TagView<'a, T> {
     ghost is_clone = { λ x y. y ≡ x };
 

@@ -48,7 +48,8 @@ impl LineTokens {
         self.table.tokens()
     }
 
-    // Adds the tokens of a line, given its bytes and the lines that they stand on, up to a fault.
+    // Adds the tokens of a line, given its bytes and the lines that they stand on, up to a fault. A step through
+    // both is as long as the token found.
     fn fill(&mut self, bytes: &[u8], lines: &[u32]) -> Result<(), Fault>
         requires empty { table_tokens self.old.table ≡ [] }
         requires beside { length lines.now ≡ length bytes.now }

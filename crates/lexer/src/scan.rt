@@ -139,7 +139,7 @@ fn is_fourfold(a: u8, b: u8, c: u8, d: u8) -> bool
     matches!((a, b, c, d), (b'%', b':', b'%', b':'))
 }
 
-// The byte at an index, 0 past the end.
+// The byte at an index, 0 past the end: no byte of a text is 0, so no test of one holds there.
 fn byte_at(bytes: &[u8], at: usize) -> u8
     ensures { result ≡ slice_index bytes.now at }
 {

@@ -6,7 +6,7 @@ ghost use Rattle.operators.specs.Sets.{role_set};
 use crate::Role;
 use item::HideSet;
 
-// What a token beside which it stands hides.
+// A tag that says which names its token hides.
 pub(crate) trait Hides {
     ghost set: { Self → SlotSet };
 

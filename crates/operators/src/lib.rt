@@ -1,4 +1,4 @@
-// The operators # and ##, and what follows them: the result goes before W.
+// The operators # and ##, and what follows them: the result goes before W, the tokens that wait to be read again.
 #![tactic(auto)]
 
 use item::HideSet;

@@ -8,7 +8,7 @@ use token::TokenRef;
 #[derive(Drop)]
 pub(crate) struct Listing {
     bytes: Vec<u8>,
-    line: u32,
+    line: Option<u32>,
     digits: String,
 }
 
@@ -16,15 +16,15 @@ impl Listing {
     pub(crate) fn new(heap: Global) -> Listing {
         Listing {
             bytes: Vec::new(heap),
-            line: 0,
+            line: None,
             digits: String::new(heap),
         }
     }
 
     pub(crate) fn add(&mut self, heap: Global, token: TokenRef<'_>) -> Result<(), AllocError> {
-        if token.line != self.line {
-            self.line = token.line;
-            let line = token.line;
+        let line = token.line;
+        if self.line != Some(line) {
+            self.line = Some(line);
             self.digits = format!(in heap; "{line}")?;
         }
         self.bytes.extend_from_slice(self.digits.as_bytes())?;

@@ -33,6 +33,12 @@ enum Stop {
     NotHandled,
 }
 
+impl From<Fault> for Stop {
+    fn from(fault: Fault) -> Stop {
+        Stop::At(Ending::Fails(fault))
+    }
+}
+
 // The definitions in force, the tokens of the text lines since the last directive, and what expands them.
 #[derive(Drop)]
 struct Plan {
@@ -64,7 +70,7 @@ impl Plan {
         if let Ending::Fails(fault) = self.end_run(heap, Ending::Whole)? {
             return Ok(Some(Stop::At(Ending::Fails(fault))));
         }
-        Ok(self.obey(directive))
+        Ok(self.obey(directive).err())
     }
 
     // Lists the expansion of the run, and answers how it ended.
@@ -85,18 +91,14 @@ impl Plan {
         }
     }
 
-    fn obey(&mut self, directive: Directive<'_>) -> Option<Stop> {
-        let outcome = match directive {
-            Directive::Dropped => Ok(()),
-            Directive::Define(line, tokens) => self.define(line, tokens),
-            Directive::Undefine(line, name) => self.undefine(line, name),
-            Directive::Faulty(fault) => Err(fault),
-            Directive::NotHandled => return Some(Stop::NotHandled),
-        };
-        match outcome {
-            Ok(()) => None,
-            Err(fault) => Some(Stop::At(Ending::Fails(fault))),
+    fn obey(&mut self, directive: Result<Directive<'_>, Fault>) -> Result<(), Stop> {
+        match directive? {
+            Directive::Dropped => {}
+            Directive::Define(line, tokens) => self.define(line, tokens)?,
+            Directive::Undefine(line, name) => self.undefine(line, name)?,
+            Directive::NotHandled => return Err(Stop::NotHandled),
         }
+        Ok(())
     }
 
     fn define(&mut self, line: u32, tokens: Tokens<'_>) -> Result<(), Fault> {

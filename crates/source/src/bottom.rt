@@ -100,7 +100,7 @@ impl<S: Shelf> Source for FileSource<'_, S> {
     }
 }
 
-// A text in memory.
+// A text in memory, with a position as a file has.
 #[derive(Drop)]
 pub struct TextSource<'a> {
     text: &'a [u8],

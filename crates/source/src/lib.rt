@@ -20,7 +20,7 @@ pub use line::{LONGEST_LINE, Line};
 pub use reader::{Pending, Reader};
 use text::{Fault, Placed};
 
-// How a source ends.
+// How a source ends: the error of each reading. That of a whole text is a case with a name, since `None` would say nothing.
 #[derive(Clone, Copy, PartialEq, Debug)]
 pub enum Ending {
     Whole,

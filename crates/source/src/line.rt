@@ -1,4 +1,5 @@
-// One logical line: its bytes, and beside each the physical line that it stands on.
+// One logical line: its bytes, and beside each the physical line that it stands on. The bytes stand alone, since spellings
+// are slices of them.
 ghost use Rattle.std.specs.Prelude.{◌≡◌, ◌≤◌, map, vec_len, vec_capacity};
 ghost use Rattle.text.specs.Placing.{placed, byte_of, line_of};
 

@@ -1,5 +1,5 @@
 -- The faults of phases 1 to 4. Assumes nothing.
-use Rattle.std.specs.Prelude.{ℕ}
+use Rattle.std.specs.Prelude.{ℕ, List, ◌++◌, codes, decimal}
 use Rattle.text.specs.declared.FaultKind.{FaultKind}
 use Rattle.text.specs.declared.FaultKind.TheVariants.{BrokenFile, BadByte, LongFile, OpenComment, OpenLiteral, LongLine, LongToken, UnknownDirective, BadDirective, BadDefinition, OtherDefinition, OpenCall, ArgumentCount, BadJoin, BadLiteral, ManyDefinitions, ManyTokens, ManyReplacements, DeepArguments}
 
@@ -45,3 +45,7 @@ fault_phase ManyDefinitions = 4
 fault_phase ManyTokens = 4
 fault_phase ManyReplacements = 4
 fault_phase DeepArguments = 4
+
+-- as it is printed
+abbrev pub fault_text : FaultKind → List ℕ
+fault_text k = codes "fault " ++ (decimal (fault_number k) ++ (codes " phase " ++ decimal (fault_phase k)))

@@ -1,8 +1,8 @@
 // What a text is made of: bytes on physical lines, and what can be wrong with them.
 #![tactic(auto)]
 
-ghost use Rattle.std.specs.Prelude.{◌≡◌};
-ghost use Rattle.text.specs.Faults.{fault_number, fault_phase};
+ghost use Rattle.std.specs.Prelude.{◌≡◌, Some};
+ghost use Rattle.text.specs.Faults.{fault_number, fault_phase, fault_text};
 ghost use Rattle.text.specs.declared.FaultKind.TheVariants.{ManyTokens};
 
 pub mod bytes;
@@ -80,7 +80,10 @@ impl FaultKind {
     }
 }
 
+// As the last line of a listing has it.
 impl fmt::Display for FaultKind {
+    ghost output = { λ k. Some (fault_text k) };
+
     fn fmt<W: fmt::Write>(&self, f: &mut fmt::Formatter<W>) -> fmt::Result {
         let number = self.number();
         let phase = self.phase();

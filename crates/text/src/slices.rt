@@ -11,6 +11,7 @@ pub fn slice_of<T>(items: &[T], start: usize, len: usize) -> &[T]
     &items[start..start + len]
 }
 
+// `==` of slices, for literals too, which are arrays.
 pub fn same_bytes(left: &[u8], right: &[u8]) -> bool
     ensures { result ≡ bytes_eq left.now right.now }
 {

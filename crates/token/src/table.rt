@@ -1,4 +1,5 @@
-// Tokens in a table: records, and one text that holds their spellings one behind the other.
+// Tokens in a table: records, and one text that holds their spellings one behind the other, so that nothing allocates after
+// making.
 ghost use Rattle.std.specs.Prelude.{◌≡◌, ◌≤◌, true, vec_len, vec_capacity};
 ghost use Rattle.token.specs.Packing.{packed};
 

@@ -28,12 +28,13 @@ fn shelf_of(heap: Global, text: &[u8]) -> Result<Catalog<'_>, AllocError> {
 
 // Adds a line for each token. The digits of a line number are made once for the tokens in a row that stand on it.
 fn add_tokens(heap: Global, listing: &mut Vec<u8>, tokens: Tokens<'_>) -> Result<(), AllocError> {
-    let mut last = 0;
+    let mut last = None;
     let mut digits = String::new(heap);
     for token in tokens {
-        if token.line != last {
-            last = token.line;
-            digits = format!(in heap; "{last}")?;
+        let line = token.line;
+        if last != Some(line) {
+            last = Some(line);
+            digits = format!(in heap; "{line}")?;
         }
         listing.extend_from_slice(digits.as_bytes())?;
         listing.extend_from_slice(&[b' ', b'0' + token.kind.number(), b' '])?;

@@ -1,4 +1,4 @@
-use Rattle.std.proofs.Common.{◌≡◌, false, suc, ◌+◌, true, cond, [], ◌++◌, length, drop, reverse, sym, refl, ap, ◌∙◌, arith}
+use Rattle.std.proofs.Common.{◌≡◌, false, suc, ◌+◌, true, cond, [], ◌++◌, length, reverse, sym, refl, ap, ◌∙◌, arith}
 use Rattle.std.proofs.lemmas.Bool.{not-false}
 use Rattle.std.proofs.lemmas.Result.{err_from_is_err_and}
 use Rattle.std.specs.List.{slice_get}
@@ -22,7 +22,7 @@ use Rattle.steps.specs.Handing.{handed_items, taken}
 use Rattle.steps.specs.Steps.{State, Failing, behind}
 use Rattle.expansion.specs.States.{waiting_in, arguments_of, expander, pieces_for}
 use Rattle.expansion.proofs.Added.{table_within}
-use Rattle.expansion.proofs.Building.{Ready, ready_other, ready_expanded, built_unexpanded, built_fault, built_more, built-limited}
+use Rattle.expansion.proofs.Building.{Ready, ready_other, ready_expanded, built_unexpanded, built_fault, built_more, built-limited, behind_one, behind_two, skipped}
 use Rattle.expansion.proofs.Expanding.{not_over, waiting_few, falls_replaced, falls_handed, step_ended, step_handed, step_replaced, step_unplaced, step_failed, argument_ended, argument_failed, argument_over, more_handed}
 use Rattle.expansion.proofs.Falling.{result_falls}
 use Rattle.expansion.proofs.Substituting.{pieces_are, argument_same, added_same}
@@ -156,15 +156,18 @@ build-returns-in_err-left-clause-pieces t c =
     let b = built e line ps args false c.args.left (view_tokens d.list) in
     let qs = pieces_of ms (held c.loop-token.level.pieces) in
     let inv = c.loop-token.invariant in
-    let token = referred c.in-Some-get.token in
-    let u = option_map referred c.get-in-Some-get.result in
+    let token = referred c.in-Some-next.token in
+    let u = option_map referred c.get.result in
+    let steps = c.in-Some-next.ensures.steps in
+    let here = ap (λ l. slice_get l 0) (sym steps) in
+    let beside = c.get.ensures ∙ ap (λ l. slice_get l 1) (sym steps) in
     let all : c.len.result ≡ length args = c.len.ensures ms ∙ ap (λ a. length (arguments_in ms a)) inv.3 in
     let k = c.in-Expanded.index in
     let f = c.in_err-left.field-0.0 in
     let q = err_from_is_err_and c.from_residual.result c.from_residual.ensures.1 in
     let same = argument_same ms file (length c.loop-token.below) (length c.args.below.now) line c.loop-token.left k (items_of ms (shown c.get-in-Expanded.result)) args (arguments_in ms c.loop-token.level.arguments) inv.4 (c.get-in-Expanded.ensures ms) (ap (arguments_in ms) inv.3) in
     rw (q.1, q.2)
-    (ap (λ o. o.ending) (pieces_are e args c.args.call c.args.left (slice_get ms c.args.call.slot) d c.in-Some.ensures) ∙ built_unexpanded e line ps args b qs c.loop-token.left (view_tokens c.loop-token.rest) c.loop-token.joins inv.0 token u c.len.result c.part_of-part.result c.in-Some-get.ensures c.get-in-Some-get.ensures all c.part_of-part.ensures k (fault_number f.kind) f.line c.in-Expanded.is (table_within ms c.loop-token.level.pieces inv.1) (ap (λ o. o.ending) (sym same) ∙ c.in_err-left.ensures))
+    (ap (λ o. o.ending) (pieces_are e args c.args.call c.args.left (slice_get ms c.args.call.slot) d c.in-Some.ensures) ∙ built_unexpanded e line ps args b qs c.loop-token.left (view_tokens c.loop-token.rest) c.loop-token.joins inv.0 token u c.len.result c.part_of-part.result here beside all c.part_of-part.ensures k (fault_number f.kind) f.line c.in-Expanded.is (table_within ms c.loop-token.level.pieces inv.1) (ap (λ o. o.ending) (sym same) ∙ c.in_err-left.ensures))
 
 pub build-returns-in-Err-clause-pieces : goal.build-returns-in-Err-clause-pieces
 build-returns-in-Err-clause-pieces g c =
@@ -178,8 +181,11 @@ build-returns-in-Err-clause-pieces g c =
     let b = built e line ps args false c.args.left (view_tokens d.list) in
     let qs = pieces_of ms (held c.loop-token.level.pieces) in
     let inv = c.loop-token.invariant in
-    let t = referred c.in-Some-get.token in
-    let u = option_map referred c.get-in-Some-get.result in
+    let t = referred c.in-Some-next.token in
+    let u = option_map referred c.get.result in
+    let steps = c.in-Some-next.ensures.steps in
+    let here = ap (λ l. slice_get l 0) (sym steps) in
+    let beside = c.get.ensures ∙ ap (λ l. slice_get l 1) (sym steps) in
     let all : c.len.result ≡ length args = c.len.ensures ms ∙ ap (λ a. length (arguments_in ms a)) inv.3 in
     let p = c.match-part.part in
     let is = items_of ms (held c.match-part.level.expanded) in
@@ -192,7 +198,44 @@ build-returns-in-Err-clause-pieces g c =
     let pieces : c.match-part.level.pieces ≡ c.loop-token.level.pieces = elim c.match-part.branch [ build-in-Expanded+in_ok-left w ↦ ap (λ l. l.pieces) w.level-is | build-in_default-part w ↦ ap (λ l. l.pieces) w.level-is ] in
     let same = added_same line args (arguments_in ms c.match-part.level.arguments) is t p qs (pieces_of ms (held c.match-part.level.pieces)) c.match-part.left (ap (arguments_in ms) (arguments ∙ inv.3)) (ap (λ x. pieces_of ms (held x)) pieces) in
     let k = c.in-Err.kind in
-    ap (λ o. o.ending) (pieces_are e args c.args.call c.args.left (slice_get ms c.args.call.slot) d c.in-Some.ensures) ∙ built_fault e line ps args b qs c.loop-token.left (view_tokens c.loop-token.rest) c.loop-token.joins inv.0 t u c.len.result p c.in-Some-get.ensures c.get-in-Some-get.ensures all (is-part ∙ c.part_of-part.ensures) is c.match-part.left ready (fault_number k) line (ap (λ o. o.ending) same ∙ c.in-Err.ensures.added ms c.match-part.left) ∙ ap (λ f. end_of (Fails f)) (sym c.at.ensures)
+    ap (λ o. o.ending) (pieces_are e args c.args.call c.args.left (slice_get ms c.args.call.slot) d c.in-Some.ensures) ∙ built_fault e line ps args b qs c.loop-token.left (view_tokens c.loop-token.rest) c.loop-token.joins inv.0 t u c.len.result p here beside all (is-part ∙ c.part_of-part.ensures) is c.match-part.left ready (fault_number k) line (ap (λ o. o.ending) same ∙ c.in-Err.ensures.added ms c.match-part.left) ∙ ap (λ f. end_of (Fails f)) (sym c.at.ensures)
+
+pub build-loop-token-preserved-then-is_literal : goal.build-loop-token-preserved-then-is_literal
+build-loop-token-preserved-then-is_literal g c =
+    let ms = macros c.args.context in
+    let file = file_of c.args.context in
+    let line = c.args.call.name.line in
+    let e = expander c.args.context c.args.below.now in
+    let args = arguments_of c.args.context c.args.level.now in
+    let d = c.in-Some.definition in
+    let ps = option_map (λ v. spellings (view_tokens v)) d.parameters in
+    let b = built e line ps args false c.args.left (view_tokens d.list) in
+    let qs = pieces_of ms (held c.loop-token.level.pieces) in
+    let inv = c.loop-token.invariant in
+    let t = referred c.in-Some-next.token in
+    let u = option_map referred c.get.result in
+    let steps = c.in-Some-next.ensures.steps in
+    let here = ap (λ l. slice_get l 0) (sym steps) in
+    let beside = c.get.ensures ∙ ap (λ l. slice_get l 1) (sym steps) in
+    let all : c.len.result ≡ length args = c.len.ensures ms ∙ ap (λ a. length (arguments_in ms a)) inv.3 in
+    let p = c.match-part.part in
+    let is = items_of ms (held c.match-part.level.expanded) in
+    let is-part : p ≡ c.part_of-part.result = elim c.match-part.branch [ build-in-Expanded+in_ok-left w ↦ w.part-is ∙ sym w.in-Expanded.is | build-in_default-part w ↦ w.part-is ] in
+    let ready : Ready e line args is c.loop-token.left c.match-part.left p = elim c.match-part.branch [
+      | build-in-Expanded+in_ok-left w ↦ ready_expanded e line args is c.loop-token.left c.match-part.left p w.in-Expanded.index w.part-is (sym (argument_same ms file (length c.loop-token.below) (length c.args.below.now) line c.loop-token.left w.in-Expanded.index (items_of ms (shown w.get-in-Expanded.result)) args (arguments_in ms c.loop-token.level.arguments) inv.4 (w.get-in-Expanded.ensures ms) (ap (arguments_in ms) inv.3)) ∙ w.in_ok-left.ensures ∙ (λ j. giving (items_of ms (held ((sym w.level-is j).expanded))) (sym w.left-is j)))
+      | build-in_default-part w ↦ ready_other e line args is c.loop-token.left c.match-part.left p (λ k h. w.in_default-part.not-Expanded k (sym w.part-is ∙ h)) w.left-is
+    ] in
+    let arguments : c.match-part.level.arguments ≡ c.loop-token.level.arguments = elim c.match-part.branch [ build-in-Expanded+in_ok-left w ↦ ap (λ l. l.arguments) w.level-is | build-in_default-part w ↦ ap (λ l. l.arguments) w.level-is ] in
+    let pieces : c.match-part.level.pieces ≡ c.loop-token.level.pieces = elim c.match-part.branch [ build-in-Expanded+in_ok-left w ↦ ap (λ l. l.pieces) w.level-is | build-in_default-part w ↦ ap (λ l. l.pieces) w.level-is ] in
+    let same = added_same line args (arguments_in ms c.match-part.level.arguments) is t p qs (pieces_of ms (held c.match-part.level.pieces)) c.match-part.left (ap (arguments_in ms) (arguments ∙ inv.3)) (ap (λ x. pieces_of ms (held x)) pieces) in
+    let w : c.match-part.level.w ≡ c.loop-token.level.w = elim c.match-part.branch [ build-in-Expanded+in_ok-left w ↦ ap (λ l. l.w) w.level-is | build-in_default-part w ↦ ap (λ l. l.w) w.level-is ] in
+    let rest = skipped _ c.next.new.self c.next-then-is_literal.new.self c.next-then-is_literal.ensures.steps ∙ behind_two p (view_tokens c.loop-token.rest) _ t steps (sym c.is_literal.ensures ∙ c.if-is_literal.true) in (
+      built_more e line ps args b qs c.loop-token.left (view_tokens c.loop-token.rest) c.loop-token.joins inv.0 t u c.len.result p here beside all (is-part ∙ c.part_of-part.ensures) is c.match-part.left ready (pieces_of ms (held c.add_part.new.pieces)) c.is_join-joins.result (view_tokens c.next-then-is_literal.new.self) (same ∙ c.in_default-add_part.ensures.added ms c.match-part.left) c.is_join-joins.ensures rest,
+      c.in_default-add_part.ensures.sized,
+      w ∙ inv.2,
+      arguments ∙ inv.3,
+      c.match-part.auto.below ∙ inv.4,
+    )
 
 pub build-loop-token-preserved : goal.build-loop-token-preserved
 build-loop-token-preserved g c =
@@ -206,8 +249,11 @@ build-loop-token-preserved g c =
     let b = built e line ps args false c.args.left (view_tokens d.list) in
     let qs = pieces_of ms (held c.loop-token.level.pieces) in
     let inv = c.loop-token.invariant in
-    let t = referred c.in-Some-get.token in
-    let u = option_map referred c.get-in-Some-get.result in
+    let t = referred c.in-Some-next.token in
+    let u = option_map referred c.get.result in
+    let steps = c.in-Some-next.ensures.steps in
+    let here = ap (λ l. slice_get l 0) (sym steps) in
+    let beside = c.get.ensures ∙ ap (λ l. slice_get l 1) (sym steps) in
     let all : c.len.result ≡ length args = c.len.ensures ms ∙ ap (λ a. length (arguments_in ms a)) inv.3 in
     let p = c.match-part.part in
     let is = items_of ms (held c.match-part.level.expanded) in
@@ -220,8 +266,8 @@ build-loop-token-preserved g c =
     let pieces : c.match-part.level.pieces ≡ c.loop-token.level.pieces = elim c.match-part.branch [ build-in-Expanded+in_ok-left w ↦ ap (λ l. l.pieces) w.level-is | build-in_default-part w ↦ ap (λ l. l.pieces) w.level-is ] in
     let same = added_same line args (arguments_in ms c.match-part.level.arguments) is t p qs (pieces_of ms (held c.match-part.level.pieces)) c.match-part.left (ap (arguments_in ms) (arguments ∙ inv.3)) (ap (λ x. pieces_of ms (held x)) pieces) in
     let w : c.match-part.level.w ≡ c.loop-token.level.w = elim c.match-part.branch [ build-in-Expanded+in_ok-left w ↦ ap (λ l. l.w) w.level-is | build-in_default-part w ↦ ap (λ l. l.w) w.level-is ] in
-    let rest = c.behind-rest.ensures ∙ ap (λ n. drop n (view_tokens c.loop-token.rest)) c.width.ensures in (
-      built_more e line ps args b qs c.loop-token.left (view_tokens c.loop-token.rest) c.loop-token.joins inv.0 t u c.len.result p c.in-Some-get.ensures c.get-in-Some-get.ensures all (is-part ∙ c.part_of-part.ensures) is c.match-part.left ready (pieces_of ms (held c.add_part.new.pieces)) c.is_join-joins.result (view_tokens c.behind-rest.result) (same ∙ c.in_default-add_part.ensures.added ms c.match-part.left) c.is_join-joins.ensures rest,
+    let rest = behind_one p (view_tokens c.loop-token.rest) _ t steps (sym c.is_literal.ensures ∙ c.if-is_literal.false) in (
+      built_more e line ps args b qs c.loop-token.left (view_tokens c.loop-token.rest) c.loop-token.joins inv.0 t u c.len.result p here beside all (is-part ∙ c.part_of-part.ensures) is c.match-part.left ready (pieces_of ms (held c.add_part.new.pieces)) c.is_join-joins.result (view_tokens c.next.new.self) (same ∙ c.in_default-add_part.ensures.added ms c.match-part.left) c.is_join-joins.ensures rest,
       c.in_default-add_part.ensures.sized,
       w ∙ inv.2,
       arguments ∙ inv.3,
@@ -240,4 +286,4 @@ build-returns-clause-pieces t c =
     let b = built e line ps args false c.args.left (view_tokens d.list) in
     let qs = pieces_of ms (held c.loop-token.level.pieces) in
     let inv = c.loop-token.invariant in
-    pieces_are e args c.args.call c.args.left (slice_get ms c.args.call.slot) d c.in-Some.ensures ∙ built-limited e line ps args b qs c.loop-token.left (view_tokens c.loop-token.rest) c.loop-token.joins inv.0 c.in_default-get.ensures (table_within ms c.loop-token.level.pieces inv.1)
+    pieces_are e args c.args.call c.args.left (slice_get ms c.args.call.slot) d c.in-Some.ensures ∙ built-limited e line ps args b qs c.loop-token.left (view_tokens c.loop-token.rest) c.loop-token.joins inv.0 (ap (λ l. slice_get l 0) (sym c.in_default-next.ensures.steps.0)) (table_within ms c.loop-token.level.pieces inv.1)

@@ -1,17 +1,15 @@
-use Rattle.std.proofs.Common.{◌+◌, map, take, refl, ap, ◌∙◌}
-use Rattle.definitions.specs.Hints.{hinted}
+use Rattle.std.proofs.Common.{vec_items, refl}
+use Rattle.token.specs.Tables.{table_tokens}
 use Rattle.definitions.specs.Meaning.{stored_macro}
 use Rattle.definitions.specs.Stores.{store_macros}
 use Rattle.definitions.proofs.Hinting.{noted_more}
-use Rattle.definitions.proofs.Lists.{take_none}
+use Rattle.definitions.proofs.Stored.{entry_slot}
 use Rattle.definitions.proofs.hints.Hints.note_all.Goals as goal
-use Rattle.definitions.proofs.hints.Hints.note_all.Goals.{in-Some, in_default}
 
 pub loop-slot-preserved : goal.loop-slot-preserved
 loop-slot-preserved c =
-    let ms = store_macros c.args.store.now in
+    let store = c.args.store.now in
     let i = c.loop-slot.slot in
-    elim c.match-get.branch [
-      | in-Some w ↦ ap (λ h. hinted h.cells (map (λ m. m.name) (take (i + 1) ms))) w.self-is ∙ noted_more c.loop-slot.self.cells w.put.new.self.cells w.in-Some.stored.name.now i w.put.ensures.here w.put.ensures.others ms i (stored_macro w.in-Some.stored) w.in-Some.ensures refl c.loop-slot.invariant
-      | in_default w ↦ ap (λ h. hinted h.cells (map (λ m. m.name) (take (i + 1) ms))) w.self-is ∙ ap (λ l. hinted c.loop-slot.self.cells (map (λ m. m.name) l)) (take_none ms i w.in_default.ensures) ∙ c.loop-slot.invariant
-    ]
+    let stored = c.macro_at.result in
+    let here = entry_slot (table_tokens store.tokens) _ (vec_items store.entries) _ i _ (stored_macro stored) c.tokens-tokens.ensures c.deref-entry-items.ensures.value c.loop-slot-test.true c.macro_at.ensures in
+    noted_more c.loop-slot.self.cells c.put.new.self.cells stored.name.now i c.put.ensures.here c.put.ensures.others (store_macros store) i (stored_macro stored) here refl c.loop-slot.invariant
