@@ -19,7 +19,7 @@ fn first_joins(list: Tokens<'_>) -> bool
 fn last_joins(list: Tokens<'_>) -> bool
     ensures { result ≡ last_joins (view_tokens list.entry) }
 {
-    list.last().is_some_and(is_join)
+    list.get(list.len().saturating_sub(1)).is_some_and(is_join)
 }
 
 fn starts_with_parameter(list: Tokens<'_>, inside: Tokens<'_>) -> bool

@@ -18,7 +18,7 @@ use Rattle.definitions.specs.InForce.{slot, size, sizes, list_token_count, fit}
 use Rattle.definitions.specs.Layout.{laid, Holds}
 use Rattle.definitions.specs.Stores.{store_macros}
 use Rattle.definitions.proofs.Blocks.{placed-push, macros-push, size-block, sizes-placed, block-length, length-placed, laid_macro}
-use Rattle.token.proofs.Filled.{size as held_bytes}
+use Rattle.token.proofs.Filled.{short as held_bytes}
 use Rattle.definitions.proofs.Finding.{slot_below}
 use Rattle.definitions.proofs.Macros.{within-fit, fit_parts, fit-push, list_token_count-push}
 
@@ -83,7 +83,7 @@ fit_store s m a b n k z p q r x y =
 
 pub store_fits : (s : Store) → fit (store_macros s) ≡ true
 store_fits s =
-    within-fit (store_macros s) (omega (arith, count s, s.few), (omega (arith, s.listed, s.short), omega (arith, bytes s, held_bytes s.tokens, s.tokens.short)))
+    within-fit (store_macros s) (omega (arith, count s, s.few), (omega (arith, s.listed, s.short), omega (arith, bytes s, held_bytes s.tokens)))
 
 -- the definition of an entry is the one in its slot
 pub entry_slot : (ts us : List Token) (es fs : List Entry) (i : ℕ) (d : Entry) (m : Macro) → us ≡ ts → fs ≡ es → i < length fs → m ≡ macro_at us (get_or fs i d) → Some m ≡ slice_get (map (macro_at ts) es) i

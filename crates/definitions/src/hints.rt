@@ -1,5 +1,5 @@
 // Guesses where a name stands among the definitions.
-ghost use Rattle.std.specs.Prelude.{◌≡◌, ℕ, ◌<◌, ◌≢◌, true, Some};
+ghost use Rattle.std.specs.Prelude.{◌≡◌, ℕ, ◌<◌, ◌%◌, ◌≢◌, true, Some};
 ghost use Rattle.definitions.specs.Hashes.{mixed, cell_of};
 ghost use Rattle.definitions.specs.Hints.{cell, hinted};
 ghost use Rattle.definitions.specs.Stores.{store_names};
@@ -9,15 +9,19 @@ use crate::store::Store;
 
 const CELLS: usize = 1024;
 
+// Definitions have at most so many slots.
+const MOST_SLOTS: usize = 256;
+
 // The hash starts with this number, and is multiplied by the other with each byte.
 const START: u32 = 2_166_136_261;
 
 const FACTOR: u32 = 16_777_619;
 
-// A cell for each value of the hash: the slot that a name with this hash was given last.
+// A cell for each value of the hash: the slot that a name with this hash was given last, in a byte, so that the cells are
+// few bytes to clear.
 #[derive(Drop)]
 pub(crate) struct Hints {
-    pub(crate) cells: [Option<usize>; CELLS],
+    pub(crate) cells: [Option<u8>; CELLS],
 }
 
 fn mix(state: u32, byte: u8) -> u32
@@ -50,15 +54,15 @@ impl Hints {
     pub(crate) fn get(&self, name: &[u8]) -> Option<usize>
         ensures { result ≡ cell self.now.cells (cell_of name.now) }
     {
-        self.cells[hash(name)]
+        self.cells[hash(name)].map(usize::from)
     }
 
     // Notes the slot of the name.
     pub(crate) fn put(&mut self, name: &[u8], slot: usize)
-        ensures here { cell self.new.cells (cell_of name.now) ≡ Some slot }
+        ensures here { cell self.new.cells (cell_of name.now) ≡ Some (slot % 256) }
         ensures others { (k : ℕ) → (k ≢ cell_of name.now) → cell self.new.cells k ≡ cell self.old.cells k }
     {
-        self.cells[hash(name)] = Some(slot);
+        self.cells[hash(name)] = Some((slot % MOST_SLOTS) as u8);
     }
 
     // Notes the slot of each name in the store, and no other.

@@ -1,5 +1,6 @@
 // A run is expanded token by token.
-ghost use Rattle.std.specs.Prelude.{◌≡◌, vec_len};
+ghost use Rattle.std.specs.Prelude.{◌≡◌, length, vec_len, nat_lt};
+ghost use Rattle.item.specs.Tables.{held};
 
 use crate::build::replace;
 use crate::level::Level;
@@ -79,7 +80,7 @@ impl Expansion {
                         let line = line_of(handed, &self.level.w, run);
                         return Err(FaultKind::ManyTokens.at(line).into());
                     }
-                    if self.handed.last().is_some() {
+                    if holds_token(&self.handed) {
                         return Ok(());
                     }
                 }
@@ -103,6 +104,13 @@ impl Expansion {
         let item = self.handed.view().get(0)?;
         Some(item.token)
     }
+}
+
+// Whether a table holds a token.
+fn holds_token(table: &TagTable<HideSet>) -> bool
+    ensures { result ≡ nat_lt 0 (length (held table.now)) }
+{
+    table.view().len() > 0
 }
 
 // The line of a token that is to be handed on.

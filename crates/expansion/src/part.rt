@@ -55,7 +55,7 @@ fn argument_of(parameters: Tokens<'_>, arguments: usize, token: TokenRef<'_>) ->
     index_of(parameters, token.spelling).filter(|index| *index < arguments)
 }
 
-// A token that is no operator: a parameter beside ## becomes its argument, any other its argument expanded.
+// A token that is no operator: a parameter beside ## becomes its argument as it stands, any other its argument expanded.
 fn substituted(argument: Option<usize>, beside: bool) -> Part
     ensures { result ≡ substituted_part argument beside }
 {

@@ -1,5 +1,5 @@
-// Reads texts at the edge of each fault of phases 1 to 3 and one past it, from a table shelf and
-// from a pack shelf, and prints how many tokens each gives and how it ends.
+// Reads texts at the edge of each fault of phases 1 to 3 and one past it, from a catalog of a table and
+// from one of a pack, and prints how many tokens each gives and how it ends.
 #![tactic(auto)]
 
 use lexer::{LineTokens, next_tokens};

@@ -11,11 +11,11 @@ use Rattle.item.proofs.Held as table
 
 module _ {T : Type 0} (t : TagTable T) where
   pub few : length (held t) ≤ 1024
-  few = omega (arith, table.count t, filled.count t.tokens, t.tokens.few)
+  few = omega (arith, table.count t, filled.few t.tokens)
 
   short : bytes (held t) ≤ 16384
   short =
-      omega (arith, bytes-beside (table_tokens t.tokens) (vec_items t.tags) (table.even t), filled.size t.tokens, t.tokens.short)
+      omega (arith, bytes-beside (table_tokens t.tokens) (vec_items t.tags) (table.even t), filled.short t.tokens)
 
   pub fits : fit (held t) ≡ true
   fits = and_from _ _ (le-leb _ _ few) (le-leb _ _ short)

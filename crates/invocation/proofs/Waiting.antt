@@ -1,11 +1,8 @@
 -- Tokens taken away from W, or else from the run. Assumes nothing.
-use Rattle.std.proofs.Common.{◌≡◌, ℕ, ltb, ◌+◌, ◌-◌, ◌<◌, List, [], ◌∷◌, ◌++◌, reverse, length, take, drop, is_some, Some, None, Option, sym, refl, ap, ◌∙◌, arith}
+use Rattle.std.proofs.Common.{◌≡◌, ℕ, ◌+◌, ◌-◌, ◌<◌, List, [], ◌∷◌, ◌++◌, reverse, length, take, drop, Some, None, Option, sym, refl, ap, ◌∙◌, arith}
 use lib.ListN.{length-reverse}
 use Rattle.std.proofs.lemmas.List.{drop-drop, length-drop}
 use Rattle.std.specs.List.{slice_get}
-use Rattle.std.specs.Option.{option_map}
-use Rattle.std.proofs.lemmas.Bool.{lt-ltb}
-use Rattle.std.proofs.lemmas.Option.{slice_get-get_or}
 use Rattle.item.specs.declared.hide_set.HideSet.{HideSet}
 use Rattle.item.specs.Tagged.{Tagged}
 use Rattle.invocation.specs.Fronts.{front_of, Dropped}
@@ -56,15 +53,3 @@ front_waiting (y ∷ w) x hand e = e
 pub front_at_hand : (w : List (Tagged HideSet)) (hand : Option (Tagged HideSet)) → None ≡ slice_get w 0 → hand ≡ front_of w hand
 front_at_hand [] hand e = refl
 front_at_hand (y ∷ w) hand e = cc
-
--- there is a last token where there are tokens
-last_there : {B : Type 0} (xs : List B) → is_some (slice_get xs (length xs - 1)) ≡ ltb 0 (length xs)
-last_there [] = refl
-last_there (x ∷ xs) = ap is_some (slice_get-get_or (x ∷ xs) _ x (omega arith)) ∙ sym (lt-ltb 0 _ (omega arith))
-
-is_some-option_map : {A B : Type 0} (f : A → B) (o : Option A) → is_some o ≡ is_some (option_map f o)
-is_some-option_map f None = refl
-is_some-option_map f (Some a) = refl
-
-pub has_last : {A B : Type 0} (f : A → B) (o : Option A) (xs : List B) → option_map f o ≡ slice_get xs (length xs - 1) → is_some o ≡ ltb 0 (length xs)
-has_last f o xs e = is_some-option_map f o ∙ ap is_some e ∙ last_there xs

@@ -1,6 +1,6 @@
 // The token that comes next: the first of W, the tokens that wait to be read again, or else the first of the run. W stands
 // in a table with its first token last.
-ghost use Rattle.std.specs.Prelude.{◌≡◌, ◌++◌, length, take, is_ok, if◌then◌else◌};
+ghost use Rattle.std.specs.Prelude.{◌≡◌, ◌++◌, length, take, is_ok, if◌then◌else◌, nat_lt};
 ghost use Rattle.std.specs.List.{slice_get};
 ghost use Rattle.std.specs.Option.{option_map};
 ghost use Rattle.item.specs.Tables.{held, referred_to};
@@ -17,9 +17,16 @@ pub fn fetch_front<R: Run>(w: &TagTable<HideSet>, run: &mut R)
     ensures fetched { front_of (waiting w.now) (R.Run.hand run.new) ≡ slice_get (waiting w.now ++ R.Run.rest run.old) 0 }
     ensures same { (R.Run.rest run.new ≡ R.Run.rest run.old) × (R.Run.end run.new ≡ R.Run.end run.old) }
 {
-    if w.last().is_none() {
+    if !is_waiting(w) {
         run.fill();
     }
+}
+
+// Whether W holds a token.
+fn is_waiting(w: &TagTable<HideSet>) -> bool
+    ensures { result ≡ nat_lt 0 (length (held w.now)) }
+{
+    w.view().len() > 0
 }
 
 // The next token, where it is at hand.
@@ -68,7 +75,7 @@ pub fn drop_front<R: Run>(w: &mut TagTable<HideSet>, run: &mut R)
     ensures dropped { Dropped 1 (waiting w.old) (R.Run.rest run.old) (waiting w.new) (R.Run.rest run.new) }
     ensures same { R.Run.end run.new ≡ R.Run.end run.old }
 {
-    if w.last().is_some() {
+    if is_waiting(w) {
         w.pop();
     } else {
         run.fill();

@@ -21,8 +21,8 @@ module _ {T : Type 0} (t : TagTable T) where
   -- a table stays within its limits
   pub fits : fit (held t) ≡ true
   fits =
-      let few : length (held t) ≤ 1024 = omega (arith, count, filled.count t.tokens, t.tokens.few) in
-      let small : bytes (held t) ≤ 16384 = omega (arith, bytes-beside (table_tokens t.tokens) (vec_items t.tags) even, filled.size t.tokens, t.tokens.short) in
+      let few : length (held t) ≤ 1024 = omega (arith, count, filled.few t.tokens) in
+      let small : bytes (held t) ≤ 16384 = omega (arith, bytes-beside (table_tokens t.tokens) (vec_items t.tags) even, filled.short t.tokens) in
       and_from _ _ (le-leb _ _ few) (le-leb _ _ small)
 
   pub room : (i : Tagged T) → has_room t.tokens (length i.token.spelling) ≡ fit (held t ++ i ∷ [])

@@ -50,9 +50,11 @@ impl<T: Copy + Drop> TagTable<T> {
         ensures room { is_ok result ≡ fit (held self.old ++ referred_to item.entry ∷ []) }
         ensures tokens { held self.new ≡ (if is_ok result then held self.old ++ referred_to item.entry ∷ [] else held self.old) }
     {
-        self.tokens.push(item.token)?;
-        self.tags.push_reserved(item.tag);
-        Ok(())
+        let pushed = self.tokens.push(item.token);
+        if pushed.is_ok() {
+            self.tags.push_reserved(item.tag);
+        }
+        pushed
     }
 
     // Takes the last token away, where there is one.

@@ -1,5 +1,6 @@
 // Phases 1 to 3, a line at a time.
 ghost use Rattle.std.specs.Prelude.{◌≡◌};
+ghost use Rattle.source.specs.declared.Ending.TheVariants.{Fails};
 ghost use Rattle.source.specs.Lines.{line_tail};
 ghost use Rattle.source.specs.Phases.{lines_left};
 ghost use Rattle.token.specs.Tables.{table_tokens};
@@ -8,6 +9,7 @@ ghost use Rattle.lexer.specs.Worked.{Worked};
 
 use crate::line_tokens::LineTokens;
 use source::{Ending, Line, Reader, Source};
+use text::Fault;
 
 // Reads the next line's tokens into `tokens`, and answers the physical line of its newline; or answers how the tokens
 // end, be it by a fault of the line, and leaves `tokens` empty.
@@ -22,7 +24,15 @@ pub fn next_tokens<B: Source>(
     ensures worked { Worked }
 {
     let next = reader.next_line(line);
-    // A fault stands in for its whole line.
-    tokens.cut(line)?;
-    next
+    match tokens.cut(line) {
+        Ok(()) => next,
+        Err(fault) => Err(ended_by(fault)),
+    }
+}
+
+// A fault stands in for its whole line, and ends the tokens.
+fn ended_by(fault: Fault) -> Ending
+    ensures { result ≡ Fails fault }
+{
+    Ending::Fails(fault)
 }

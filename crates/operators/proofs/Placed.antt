@@ -1,5 +1,6 @@
 -- A result that is joined and goes before W. Assumes nothing.
-use Rattle.std.proofs.Common.{◌≡◌, ℕ, Bool, true, false, not, List, None, Ok, Err, sym, ap, ◌∙◌}
+use Rattle.std.proofs.Common.{◌≡◌, ℕ, Bool, true, false, not, if◌then◌else◌, List, None, Ok, Err, Result, subst, sym, refl, ap, ◌∙◌}
+use Rattle.text.specs.declared.FaultKind.{FaultKind}
 use Rattle.std.proofs.lemmas.Bool.{not-false, not-true}
 use Rattle.text.specs.declared.FaultKind.TheVariants.{ManyTokens}
 use Rattle.replacement.specs.Items.{Item, giving, over}
@@ -20,3 +21,8 @@ module _ (line : ℕ) (m : Bool) (h : List ℕ → Bool) (ps : List Piece) (w v 
 
   pub too_many : false ≡ not (over (placed_before m h w is)) → Placing line m h ps w v (Err ManyTokens)
   too_many room = (all_left, ap (λ js. over (placed_before m h w js)) (sym same) ∙ not-false _ (sym room))
+
+  -- where there is room for them, and where there is not
+  pub placing : (room : Bool) (r : Result (Unit {0}) FaultKind) → room ≡ not (over (placed_before m h w is)) → (room ≡ true → v ≡ placed_before m h w is) → r ≡ (if room then Ok tt else Err ManyTokens) → Placing line m h ps w v r
+  placing true r e before p = subst (Placing line m h ps w v) (sym p) (put e (before refl))
+  placing false r e before p = subst (Placing line m h ps w v) (sym p) (too_many e)

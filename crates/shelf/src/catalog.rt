@@ -1,5 +1,7 @@
 // A shelf that keeps its files in a list.
-ghost use Rattle.shelf.specs.Makes.{catalog_files};
+ghost use Rattle.std.specs.Prelude.{◌≡◌, map};
+ghost use Rattle.shelf.specs.Files.{first_named};
+ghost use Rattle.shelf.specs.Makes.{file_of, catalog_files};
 
 use crate::{Ending, Shelf};
 
@@ -16,11 +18,18 @@ pub struct Catalog<'a> {
     pub(crate) files: Vec<StoredFile<'a>>,
 }
 
+// The number of the first file with the name.
+fn first_named(files: &[StoredFile<'_>], name: &[u8]) -> Option<usize>
+    ensures { result ≡ first_named name.now (map file_of files.now) }
+{
+    files.iter().position(|file| file.name == name)
+}
+
 impl Shelf for Catalog<'_> {
     ghost files = { catalog_files };
 
     fn find(&self, name: &[u8]) -> Option<usize> {
-        self.files.iter().position(|file| file.name == name)
+        first_named(&self.files, name)
     }
 
     fn read(&self, file: usize, offset: usize) -> Option<Result<u8, Ending>> {

@@ -1,4 +1,4 @@
--- What cutting into lines does, in words of its subject: by what stands before the next newline. Assumes nothing.
+-- What cutting into logical lines does, in words of its subject: by what stands before the next newline. Assumes nothing.
 use Rattle.std.specs.Prelude.{◌≡◌, ◌<◌, ◌≤◌, true, List, ◌∷◌, length, ◌==◌}
 use Rattle.text.specs.declared.FaultKind.TheVariants.{LongLine}
 use Rattle.text.specs.declared.Placed.{Placed}

@@ -27,7 +27,7 @@ closing file.Broken line = failing BrokenFile line
 abbrev pub line_behind : ℕ → ℕ → ℕ
 line_behind b line = cond (b == 10) (line + 1) line
 
--- what a byte on a line gives behind n others: one that is not admitted is a fault, and the 65,536th is another
+-- what a byte on a line gives behind n others: one that is not admitted is a fault, and the 65,536th is another in its place
 abbrev pub placing : ℕ → ℕ → ℕ → Result Placed Ending
 placing n line b =
     cond (nat_lt n 65535) (cond (admitted b) (Ok (record { byte = b; line = line })) (Err (failing BadByte line))) (Err (failing LongFile line))

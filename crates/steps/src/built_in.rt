@@ -1,5 +1,5 @@
 // What built-in names stand for.
-ghost use Rattle.std.specs.Prelude.{◌≡◌, ◌+◌, ◌≤◌, [], ◌++◌, length};
+ghost use Rattle.std.specs.Prelude.{◌≡◌, ◌+◌, ◌%◌, ◌≤◌, [], ◌++◌, length, decimal};
 ghost use Rattle.operators.specs.Spellings.{spelt};
 ghost use Rattle.replacement.specs.Replacing.{digits};
 ghost use Rattle.steps.specs.Contexts.{file_of};
@@ -7,7 +7,6 @@ ghost use Rattle.steps.specs.Handing.{quoted_file, built_in_spelling};
 
 use crate::class::BuiltIn;
 use crate::context::Context;
-use itoa::Buffer;
 use operators::Spelling;
 
 // Makes the spelling that a built-in name stands for on a line.
@@ -49,5 +48,25 @@ fn write_digits(number: u32, spelling: &mut Spelling)
     requires { spelt spelling.old ≡ [] }
     ensures { spelt spelling.new ≡ digits 10 number [] }
 {
-    add(spelling, Buffer::new().format(number).as_bytes());
+    add_digits(number, spelling);
+}
+
+// The digits of a number, behind what was written before.
+fn add_digits(number: u32, spelling: &mut Spelling)
+    requires { length (spelt spelling.old) + length (decimal number) ≤ 1023 }
+    ensures { spelt spelling.new ≡ (spelt spelling.old ++ decimal number) }
+{
+    if number < 10 {
+        add(spelling, &[digit(number)]);
+    } else {
+        add_digits(number / 10, spelling);
+        add(spelling, &[digit(number)]);
+    }
+}
+
+// The last digit of a number.
+fn digit(number: u32) -> u8
+    ensures { result ≡ 48 + number % 10 }
+{
+    b'0' + (number % 10) as u8
 }

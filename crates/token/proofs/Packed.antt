@@ -4,7 +4,7 @@ use Rattle.std.proofs.lemmas.List.{take-append-le, take-append-drop, drop-append
 use Rattle.std.proofs.lemmas.Bool.{and_parts, and_from, eqb-true, eq-eqb}
 use Rattle.token.specs.declared.record.Record.{Record}
 use Rattle.token.specs.Packing.{packed}
-use Rattle.token.specs.Tables.{record_token}
+use Rattle.token.specs.Limited.{record_token}
 use Rattle.token.specs.Views.{spelled}
 
 pub starts : (at : ℕ) (r : Record) (rs : List Record) (end : ℕ) → packed at (r ∷ rs) end ≡ true → r.spelling.start ≡ at

@@ -5,7 +5,7 @@ use Rattle.std.proofs.lemmas.List.{get_or-map}
 use Rattle.std.proofs.lemmas.Option.{slice_get-get_or}
 use Rattle.std.specs.List.{slice_get}
 use Rattle.token.specs.declared.record.Record.{Record}
-use Rattle.token.specs.Tables.{record_token}
+use Rattle.token.specs.Limited.{record_token}
 
 pub shown : (text : List ℕ) (rs : List Record) (i : ℕ) (d : Record) → i < length rs → Some (record_token text (get_or rs i d)) ≡ slice_get (map (record_token text) rs) i
 shown text rs i d h =

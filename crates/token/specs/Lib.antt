@@ -1,3 +1,4 @@
+pub mod Limited
 pub mod Packing
 pub mod Tables
 pub mod Tokens

@@ -5,10 +5,12 @@ ghost use Rattle.std.specs.Prelude.{◌≡◌};
 ghost use Rattle.std.specs.Str.{bytes_eq};
 ghost use Rattle.token.specs.Tokens.{kind_number};
 
+mod limited;
 mod record;
 mod table;
 mod tokens;
 
+pub use limited::LimitedTable;
 pub use table::TokenTable;
 pub use tokens::Tokens;
 

@@ -3,7 +3,8 @@ ghost use Rattle.std.specs.Prelude.{◌≡◌, length, take, drop};
 ghost use Rattle.std.specs.Iterator.{YieldsFirstBy, item_count};
 ghost use Rattle.std.specs.List.{slice_get};
 ghost use Rattle.std.specs.Option.{option_map};
-ghost use Rattle.token.specs.Tables.{record_token, referred};
+ghost use Rattle.token.specs.Limited.{record_token};
+ghost use Rattle.token.specs.Tables.{referred};
 ghost use Rattle.token.specs.Views.{view_tokens};
 
 use crate::TokenRef;

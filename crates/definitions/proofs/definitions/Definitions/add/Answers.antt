@@ -12,5 +12,5 @@ invariant_of-self-2 c =
     let m = macro_of c.args.definition in
     record {
       unlike = unlike_push (in_force d) os m c.append.ensures d.unlike c.requires;
-      noted = noted_push d.hints.cells c.put.new.self.cells c.args.definition.name.now c.len.result c.put.ensures.here c.put.ensures.others (in_force d) os m c.append.ensures refl d.noted;
+      noted = noted_push d.hints.cells c.put.new.self.cells c.args.definition.name.now _ c.put.ensures.here c.put.ensures.others (in_force d) os m c.append.ensures refl d.noted;
     }

@@ -12,4 +12,4 @@ loop-slot-preserved c =
     let i = c.loop-slot.slot in
     let stored = c.macro_at.result in
     let here = entry_slot (table_tokens store.tokens) _ (vec_items store.entries) _ i _ (stored_macro stored) c.tokens-tokens.ensures c.deref-entry-items.ensures.value c.loop-slot-test.true c.macro_at.ensures in
-    noted_more c.loop-slot.self.cells c.put.new.self.cells stored.name.now i c.put.ensures.here c.put.ensures.others (store_macros store) i (stored_macro stored) here refl c.loop-slot.invariant
+    noted_more c.loop-slot.self.cells c.put.new.self.cells stored.name.now _ c.put.ensures.here c.put.ensures.others (store_macros store) i (stored_macro stored) here refl c.loop-slot.invariant

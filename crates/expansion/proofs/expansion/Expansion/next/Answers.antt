@@ -1,10 +1,9 @@
 use Rattle.std.proofs.Common.{◌≡◌, ◌+◌, length, is_ok, Ok, Err, subst, sym, refl, ap, ◌∙◌, arith}
 use Rattle.std.proofs.lemmas.Result.{err_from_is_err_and}
-use Rattle.item.specs.Tables.{held, referred_to}
+use Rattle.item.specs.Tables.{held}
 use Rattle.replacement.specs.Meaning.{end_of}
 use Rattle.invocation.specs.Calls.{arguments_in}
 use Rattle.invocation.specs.Fronts.{waiting}
-use Rattle.invocation.proofs.Waiting.{has_last}
 use Rattle.steps.specs.Contexts.{macros, file_of}
 use Rattle.steps.specs.Steps.{State, Preparing}
 use Rattle.expansion.specs.States.{state_of}
@@ -49,29 +48,29 @@ returns-in-End-clause-answer g c =
     let r = stepped g (goal.at.returns-in-End-clause-answer g c).In_ok-prepare in
     ends_run r c.in-End.is c.ending.result (ap end_of (sym (c.ending.ensures ∙ c.in_ok-prepare.ensures.same ∙ c.loop-run.invariant.2))) r.u (held c.loop-run.self.handed) refl
 
-pub returns-then-is_some-clause-answer : goal.returns-then-is_some-clause-answer
-returns-then-is_some-clause-answer g c =
-    let r = stepped g (goal.at.returns-then-is_some-clause-answer g c).In_ok-prepare in
+pub returns-then-holds_token-clause-answer : goal.returns-then-holds_token-clause-answer
+returns-then-holds_token-clause-answer g c =
+    let r = stepped g (goal.at.returns-then-holds_token-clause-answer g c).In_ok-prepare in
     let fits = c.hand_on-pushed in
     let yes = c.if-is_err.ensures.negation in
-    hands_on r c.in-Hand.handed c.in-Hand.is (held c.loop-run.self.handed) c.loop-run.invariant.1 (is_ok fits.result) (held fits.new.to) (waiting fits.new.w) (g.R.Run.rest fits.new.run) c.is_some.result fits.ensures.moved yes (fits.ensures.dropped yes) (c.is_some.ensures ∙ has_last referred_to _ (held fits.new.to) c.last.ensures) c.if-is_some.true
+    hands_on r c.in-Hand.handed c.in-Hand.is (held c.loop-run.self.handed) c.loop-run.invariant.1 (is_ok fits.result) (held fits.new.to) (waiting fits.new.w) (g.R.Run.rest fits.new.run) c.holds_token.result fits.ensures.moved yes (fits.ensures.dropped yes) c.holds_token.ensures c.if-holds_token.true
 
-pub loop-run-smaller-else-is_some : goal.loop-run-smaller-else-is_some
-loop-run-smaller-else-is_some g c =
-    let r = stepped g (goal.at.loop-run-smaller-else-is_some g c).In_ok-prepare in
+pub loop-run-smaller-else-holds_token : goal.loop-run-smaller-else-holds_token
+loop-run-smaller-else-holds_token g c =
+    let r = stepped g (goal.at.loop-run-smaller-else-holds_token g c).In_ok-prepare in
     let fits = c.hand_on-pushed in
     let falls = size_handed r.s r.u r.p c.in-Hand.handed (waiting fits.new.w) (g.R.Run.rest fits.new.run) c.in_ok-prepare.ensures.falls c.in-Hand.is (fits.ensures.dropped c.if-is_err.ensures.negation) in
     hand_falls (length (g.R.Run.rest c.args.run.now)) r.s.left r.u.left (length (waiting fits.new.w) + length (g.R.Run.rest fits.new.run)) (length r.s.w + length r.s.run) falls.0 falls.1
 
-pub loop-run-preserved-else-is_some : goal.loop-run-preserved-else-is_some
-loop-run-preserved-else-is_some g c =
-    let r = stepped g (goal.at.loop-run-preserved-else-is_some g c).In_ok-prepare in
+pub loop-run-preserved-else-holds_token : goal.loop-run-preserved-else-holds_token
+loop-run-preserved-else-holds_token g c =
+    let r = stepped g (goal.at.loop-run-preserved-else-holds_token g c).In_ok-prepare in
     let inv = c.loop-run.invariant in
     let h = c.in-Hand.handed in
     let fits = c.hand_on-pushed in
     let yes = c.if-is_err.ensures.negation in
     let drops = fits.ensures.dropped yes in
-    let more = goes_on r h c.in-Hand.is (held c.loop-run.self.handed) inv.1 (is_ok fits.result) (held fits.new.to) (waiting fits.new.w) (g.R.Run.rest fits.new.run) c.is_some.result fits.ensures.moved yes drops (c.is_some.ensures ∙ has_last referred_to _ (held fits.new.to) c.last.ensures) c.if-is_some.false in
+    let more = goes_on r h c.in-Hand.is (held c.loop-run.self.handed) inv.1 (is_ok fits.result) (held fits.new.to) (waiting fits.new.w) (g.R.Run.rest fits.new.run) c.holds_token.result fits.ensures.moved yes drops c.holds_token.ensures c.if-holds_token.false in
     (more.0, more.1, fits.ensures.same ∙ c.in_ok-prepare.ensures.same ∙ inv.2, omega (arith, inv.3, falls_handed r.s r.u r.p h (waiting fits.new.w) (g.R.Run.rest fits.new.run) c.in_ok-prepare.ensures.falls c.in-Hand.is drops))
 
 pub returns-in_err-self-in-Replace-clause-answer : goal.returns-in_err-self-in-Replace-clause-answer

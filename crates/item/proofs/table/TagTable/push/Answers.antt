@@ -1,15 +1,17 @@
-use Rattle.std.proofs.Common.{◌∙◌, rules}
-use Rattle.item.specs.Tables.{referred_to}
+use Rattle.std.proofs.Common.{◌≡◌, true, is_ok, if◌then◌else◌, [], ◌∷◌, ◌++◌, sym, ap, ◌∙◌, rules}
+use Rattle.std.proofs.ResultArms.{chosen}
+use Rattle.item.specs.Tables.{held, referred_to}
 use Rattle.item.proofs.Held.{room, held-push}
 use Rattle.item.proofs.table.TagTable.push.Goals as goal
 
-pub returns-in_err-push-clause-room : goal.returns-in_err-push-clause-room
-returns-in_err-push-clause-room g c =
-    let more = room c.args.self.now (referred_to c.args.item) in search rules
+pub returns-then-is_ok-clause-room : goal.returns-then-is_ok-clause-room
+returns-then-is_ok-clause-room g c = c.push-pushed.ensures.room ∙ room c.args.self.now (referred_to c.args.item)
 
-pub returns-clause-room : goal.returns-clause-room
-returns-clause-room g c = c.in_ok-push.ensures.room ∙ room c.args.self.now (referred_to c.args.item)
+pub returns-then-is_ok-clause-tokens : goal.returns-then-is_ok-clause-tokens
+returns-then-is_ok-clause-tokens g c =
+    let xs = held c.args.self.now in
+    let yes : is_ok c.push-pushed.result ≡ true = search rules in
+    held-push c.args.self.now (referred_to c.args.item) _ _ (chosen _ _ _ _ c.push-pushed.ensures.tokens yes) c.push_reserved.ensures.items ∙ ap (λ b. if b then xs ++ referred_to c.args.item ∷ [] else xs) (sym yes)
 
-pub returns-clause-tokens : goal.returns-clause-tokens
-returns-clause-tokens g c =
-    held-push c.args.self.now (referred_to c.args.item) _ _ c.in_ok-push.ensures.tokens c.push_reserved.ensures.items
+pub returns-else-is_ok-clause-room : goal.returns-else-is_ok-clause-room
+returns-else-is_ok-clause-room g c = c.push-pushed.ensures.room ∙ room c.args.self.now (referred_to c.args.item)

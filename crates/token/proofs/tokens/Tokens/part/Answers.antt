@@ -1,6 +1,6 @@
 use Rattle.std.proofs.Common.{map, take, drop, sym, ap, ◌∙◌}
 use Rattle.std.proofs.lemmas.List.{take-map, drop-map}
-use Rattle.token.specs.Tables.{record_token}
+use Rattle.token.specs.Limited.{record_token}
 use Rattle.token.proofs.tokens.Tokens.part.Goals as goal
 
 pub returns : goal.returns
