@@ -116,7 +116,10 @@ fn part(context: Context<'_>, slot: usize, arguments: &mut Arguments) -> Result<
     ensures parts { arguments_of (slice_get (macros context.entry) slot) (items_of (macros context.entry) (inside arguments.old)) ≡ (if is_ok result then Some (arguments_in (macros context.entry) arguments.new) else None) }
     ensures fault { IfErr result (λ f. f ≡ ArgumentCount) }
 {
-    let definition = context.definition(slot).ok_or(FaultKind::ArgumentCount)?;
+    let definition = context
+        .definitions
+        .get(slot)
+        .ok_or(FaultKind::ArgumentCount)?;
     let parameters = definition.parameters.ok_or(FaultKind::ArgumentCount)?;
     arguments.part(parameters.len(), has_variable(parameters))
 }

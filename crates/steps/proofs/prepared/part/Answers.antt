@@ -16,4 +16,4 @@ returns-clause-parts c =
     let ms = macros c.args.context in
     let is = items_of ms (inside c.args.arguments.now) in
     let words = spellings (view_tokens c.in_ok-parameters.parameters) in
-    ap (λ o. arguments_of o is) (sym c.definition.ensures ∙ ap (option_map stored_macro) c.in_ok-definition.ensures.ok_part) ∙ ap (λ o. elim (option_map (λ v. spellings (view_tokens v)) o) [ None ↦ None | Some ps ↦ arguments ps is ]) c.in_ok-parameters.ensures.ok_part ∙ c.part.ensures.parts ms words (length-map _ _ ∙ sym c.len.ensures) (sym c.has_variable.ensures)
+    ap (λ o. arguments_of o is) (sym c.get.ensures ∙ ap (option_map stored_macro) c.in_ok-definition.ensures.ok_part) ∙ ap (λ o. elim (option_map (λ v. spellings (view_tokens v)) o) [ None ↦ None | Some ps ↦ arguments ps is ]) c.in_ok-parameters.ensures.ok_part ∙ c.part.ensures.parts ms words (length-map _ _ ∙ sym c.len.ensures) (sym c.has_variable.ensures)
