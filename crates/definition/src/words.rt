@@ -11,21 +11,16 @@ use token::{Kind, TokenRef};
 // What the parameter `...` is called.
 pub(crate) const VARIABLE: &[u8] = b"__VA_ARGS__";
 
-// The names that can be neither defined nor undefined.
-const RESERVED: [&[u8]; 6] = [
-    b"defined",
-    VARIABLE,
-    b"__LINE__",
-    b"__FILE__",
-    b"__STDC__",
-    b"__STDC_VERSION__",
-];
-
 // Whether the name can be neither defined nor undefined.
 pub fn is_reserved(name: &[u8]) -> bool
     ensures { result ≡ member name.now reserved }
 {
-    RESERVED.contains(&name)
+    same_bytes(name, b"defined")
+        || same_bytes(name, VARIABLE)
+        || same_bytes(name, b"__LINE__")
+        || same_bytes(name, b"__FILE__")
+        || same_bytes(name, b"__STDC__")
+        || same_bytes(name, b"__STDC_VERSION__")
 }
 
 pub fn is_hash(token: TokenRef<'_>) -> bool
